@@ -1,0 +1,2 @@
+// The crossings of two outlines.
+pub mod count;

@@ -1,0 +1,15 @@
+pub mod Numbers
+pub mod Products
+pub mod Nears
+pub mod Passes
+pub mod Betweens
+pub mod Meets
+pub mod Propers
+pub mod Laws
+pub mod Admits
+pub mod Integers
+pub mod Ring
+pub mod Ratios
+pub mod Marks
+pub mod Identities
+pub mod Geometry

@@ -1,0 +1,4 @@
+pub mod Format
+pub mod Held
+pub mod Laws
+pub mod Outlined

@@ -1,19 +1,17 @@
 -- Numbers of two bytes. Assumes nothing.
-use mathlib.Core.Path.{_≡_, refl, sym, ap, subst, _∙_}
+use mathlib.Core.Path.{_≡_, refl, ap}
 use mathlib.Core.Bool.{Bool, true, false, cond}
-use mathlib.Core.List.{List, [], _∷_}
+use mathlib.Core.List.{[], _∷_}
 use mathlib.Core.Logic.{_⊎_, inl, inr}
-use Prim.Native.Nat.{ℕ, suc, _+_, _-_, _*_, _/_, _%_, _<_, _≤_}
+use Prim.Native.Nat.{ℕ, _+_, _-_, _*_, _/_, _%_, _<_, _≤_}
 use native.Mathlib.Omega.{arith}
-use lib.Dec.{ltb, leb}
+use lib.Dec.{leb}
 use lib.IntN.{ℤ, pos, negsuc, natAbs}
 use Rattle.std.proofs.shelf.Tests.{lt-ltb, le-ltb, cases-lt, and-parts, leb-true, false≢true}
 use Rattle.std.specs.Options.{isSome}
-use Rattle.std.specs.declared.option.Option.{Option}
 use Rattle.std.specs.declared.option.Option.the-variants.{Some, None}
 use Rattle.decimetre.specs.declared.corner.Pair.{Pair}
-use Rattle.decimetre.specs.declared.corner.Corner.{Corner}
-use Rattle.decimetre.specs.Exact.{near, cornerOf, farthest, admitted}
+use Rattle.decimetre.specs.Exact.{near, cornerOf, farthest}
 use Rattle.job.specs.Format.{bitsOf, InTwoBytes, numberBytes, numberOf}
 use Rattle.job.specs.Laws.{Fine}
 

@@ -19,7 +19,7 @@ use Rattle.plane.specs.declared.ring.Ring.{Ring}
 use Rattle.plane.specs.declared.ring.Ring.the-variants.{One, Two}
 use Rattle.job.specs.declared.reader.Kind.{Kind}
 use Rattle.job.specs.declared.reader.Kind.the-variants.{Corner, End}
-use Rattle.job.specs.Format.{andThen, kindAt, pairAt, fitting, added, Lists, none, pairsIn, puts, byKind, oneRecord, readFrom}
+use Rattle.job.specs.Format.{andThen, kindAt, pairAt, fitting, added, Lists, none, pairsIn, puts, byKind, readFrom}
 use Rattle.job.specs.Laws.{Enough}
 use Rattle.job.proofs.Adds as adds
 use Rattle.job.proofs.Readings.{then-same, reads-one}

@@ -1,13 +1,13 @@
 -- The reading one record at a time. Assumes nothing.
-use mathlib.Core.Path.{_≡_, refl, sym, ap, subst, _∙_}
+use mathlib.Core.Path.{_≡_, refl, sym, ap, _∙_}
 use mathlib.Core.List.{List, [], _∷_}
-use Prim.Native.Nat.{ℕ, zero, suc, _+_, _-_, _<_, _≤_}
+use Prim.Native.Nat.{ℕ, zero, suc, _+_, _≤_}
 use native.Mathlib.Omega.{arith}
 use lib.ListN.{length, drop}
 use Rattle.std.proofs.shelf.Lists.{length-drop}
 use Rattle.std.specs.declared.result.Result.{Result}
 use Rattle.std.specs.declared.result.Result.the-variants.{Ok, Err}
-use Rattle.plane.specs.Refusals.{Told, tells}
+use Rattle.plane.specs.Refusals.{Told}
 use Rattle.decimetre.specs.declared.corner.Pair.{Pair}
 use Rattle.plane.specs.declared.ring.Ring.{Ring}
 use Rattle.job.specs.declared.reader.Kind.{Kind}

@@ -1,25 +1,21 @@
 -- One record, at its offset. Assumes nothing.
 use mathlib.Core.Path.{_≡_, refl, sym, ap, _∙_}
-use mathlib.Core.Bool.{Bool, true, false, cond}
 use mathlib.Core.List.{List, [], _∷_}
 use mathlib.Core.Logic.{_⊎_, inl, inr}
 use Prim.Native.Nat.{ℕ, _+_, _-_, _*_, _<_, _≤_}
 use native.Mathlib.Omega.{arith}
-use lib.Dec.{ltb}
-use lib.IntN.{ℤ, pos, negsuc}
+use lib.IntN.{ℤ, negsuc}
 use lib.ListN.{length, drop, getD}
 use lib.Signed.{mag}
 use mir.Syntax.{w16, w32}
-use mir.Val.{toZ, ofZ, SFits}
+use mir.Val.{toZ, ofZ}
 use Rattle.std.proofs.shelf.Lists.{at-drop-more, length-drop, getD-drop}
 use Rattle.std.proofs.shelf.Signed.{toZ-ofZ}
-use Rattle.std.proofs.shelf.Tests.{lt-ltb, le-ltb, ne-eqb, cases-lt, ltb-true, ltb-false}
-use Rattle.std.specs.declared.option.Option.{Option}
-use Rattle.std.specs.declared.option.Option.the-variants.{Some, None}
-use Rattle.std.specs.declared.result.Result.{Result}
+use Rattle.std.proofs.shelf.Tests.{lt-ltb, le-ltb, ne-eqb, cases-lt}
+use Rattle.std.specs.declared.option.Option.the-variants.{None}
 use Rattle.std.specs.declared.result.Result.the-variants.{Ok, Err}
 use Rattle.plane.specs.Refusals.{tells}
-use Rattle.job.specs.Format.{numberOf, kindOf, known, kindAt, pairOf, pairAt}
+use Rattle.job.specs.Format.{numberOf, kindOf, known, kindAt, pairAt}
 
 -- the kind is told by the byte at the offset
 pub first-kind : (at b : ℕ) (xs : List ℕ) → at < length xs → getD xs at 0 ≡ b → kindAt at (b ∷ []) ≡ kindAt at (drop at xs)

@@ -14,8 +14,6 @@ use Rattle.std.proofs.shelf.Elements.{all-append, all-from-getD, all-map, kept-
 use Rattle.std.proofs.shelf.Tests.{cases-lt, cases-eq, lt-ltb, le-ltb}
 use Rattle.std.specs.shelf.Lists.{All, kept-by}
 use Rattle.std.specs.Options.{isSome}
-use Rattle.std.specs.declared.option.Option.{Option}
-use Rattle.std.specs.declared.option.Option.the-variants.{Some, None}
 use Rattle.std.specs.declared.result.Result.{Result}
 use Rattle.std.specs.declared.result.Result.the-variants.{Ok, Err}
 use Rattle.plane.specs.Refusals.{Told, tells}
@@ -26,8 +24,8 @@ use Rattle.plane.specs.declared.ring.Ring.{Ring}
 use Rattle.plane.specs.declared.ring.Ring.the-variants.{One, Two}
 use Rattle.job.specs.declared.reader.Kind.{Kind}
 use Rattle.job.specs.declared.reader.Kind.the-variants.{Corner, End}
-use Rattle.job.specs.Format.{kindByte, InTwoBytes, numberBytes, numberOf, Record, bytesOf, written, andThen, kindOf, known, kindAt, pairAt, added, Lists, none, pairsIn, puts, readFrom, readJob}
-use Rattle.job.specs.Laws.{sameRing, ofRing, ringsOf, corners, Fine, Good, Front, Split, Written, ReadsBack, ListsReadBack, OnlySo}
+use Rattle.job.specs.Format.{kindByte, InTwoBytes, numberBytes, numberOf, Record, bytesOf, written, andThen, kindOf, known, pairAt, added, Lists, none, pairsIn, puts, readFrom, readJob}
+use Rattle.job.specs.Laws.{sameRing, ofRing, ringsOf, corners, Fine, Front, Split, Written, ReadsBack, ListsReadBack, OnlySo}
 use Rattle.job.specs.Laws.Front.{ended, missing, strange, full, cut, wild}
 use Rattle.job.proofs.Numbers.{number-back, fine-in-two, in-two, bytes-back}
 use Rattle.job.proofs.Records.{no-kind}

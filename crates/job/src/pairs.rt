@@ -5,7 +5,6 @@ ghost use mathlib.Core.Path.{_≡_};
 ghost use Prim.Native.Nat.{_≤_};
 ghost use lib.ListN.{length};
 ghost use Rattle.plane.specs.Outlines.{mostCorners};
-ghost use Rattle.plane.specs.Outlines.{mostCorners};
 
 /// At most 1,024 pairs, in order, held in place.
 #[derive(Drop)]

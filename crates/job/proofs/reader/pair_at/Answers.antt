@@ -2,9 +2,6 @@
 use mathlib.Core.Path.{_∙_}
 use Prim.Native.Nat.{_+_}
 use native.Mathlib.Omega.{arith}
-use lib.ListN.{getD}
-use mir.Syntax.{w32}
-use mir.Val.{toZ, ofZ}
 use Rattle.job.proofs.Records.{number-is, widened, pair-short, pair-whole}
 use Rattle.job.proofs.reader.pair_at.Needs as need
 

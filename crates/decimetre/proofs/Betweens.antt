@@ -1,8 +1,8 @@
 -- Where a corner lies on an edge, by the tests of the code. Assumes nothing.
 use mathlib.Core.Path.{_≡_, refl}
-use mathlib.Core.Bool.{true, false, cond}
+use mathlib.Core.Bool.{true, false}
 use lib.Dec.{eqb}
-use lib.IntN.{ℤ, natAbs, _-ℤ_}
+use lib.IntN.{natAbs, _-ℤ_}
 use Rattle.std.specs.declared.option.Option.the-variants.{Some, None}
 use Rattle.decimetre.specs.declared.corner.Corner.{Corner}
 use Rattle.decimetre.specs.declared.corner.Mark.the-variants.{Start}

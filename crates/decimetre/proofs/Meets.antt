@@ -1,16 +1,15 @@
 -- What two edges' meeting comes to, by the steps of the code. Assumes nothing.
-use mathlib.Core.Path.{_≡_, refl, sym, ap, ap₂, _∙_}
+use mathlib.Core.Path.{_≡_, refl, ap₂, _∙_}
 use mathlib.Core.Bool.{Bool, true, false, cond}
-use Prim.Native.Nat.{ℕ, zero, suc}
+use Prim.Native.Nat.{zero, suc}
 use native.Mathlib.Omega.{arith}
 use lib.Dec.{eqb}
-use lib.IntN.{ℤ, pos, negsuc, natAbs, negℤ}
-use lib.Signed.{ltZ}
+use lib.IntN.{ℤ, pos, negsuc, natAbs}
 use Rattle.std.proofs.shelf.Signed.{ints}
 use Rattle.std.proofs.shelf.Tests.{cond-true}
 use Rattle.std.specs.declared.option.Option.{Option}
 use Rattle.plane.specs.declared.answer.Side.{Side}
-use Rattle.plane.specs.declared.answer.Side.the-variants.{Left, Right, Level}
+use Rattle.plane.specs.declared.answer.Side.the-variants.{Level}
 use Rattle.plane.specs.declared.answer.Meet.{Meet}
 use Rattle.decimetre.specs.declared.corner.Corner.{Corner}
 use Rattle.decimetre.specs.declared.corner.Mark.{Mark}

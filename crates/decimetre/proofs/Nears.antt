@@ -5,7 +5,7 @@ use lib.Dec.{leb}
 use lib.IntN.{natAbs}
 use Rattle.std.proofs.shelf.Tests.{leb-true, le-leb, and-from, and-parts}
 use Rattle.decimetre.specs.declared.corner.Corner.{Corner}
-use Rattle.decimetre.specs.Exact.{farthest, near, near3, near4, Near}
+use Rattle.decimetre.specs.Exact.{farthest, near, near3, Near}
 
 pub near-told : (c : Corner) → near c ≡ true → Near c
 near-told c e =

@@ -11,11 +11,11 @@ use plane::answer::SidePartialEq;
 ghost use mathlib.Core.Path.{_≡_};
 ghost use Prim.Native.Nat.{_^_, _≤_};
 ghost use lib.IntN.{natAbs};
-ghost use Rattle.decimetre.specs.Exact.{denom, portion, share, betweenAt, overlap, parallel, meetAt, Near};
+ghost use Rattle.decimetre.specs.Exact.{denom, portion, share, crossing, betweenAt, overlap, parallel, meetAt, Near};
 ghost use Rattle.decimetre.specs.Plane.{ProperMeet};
 ghost use Rattle.decimetre.specs.Vectors.{numOf};
 
-// What the places on both edges are divided by: 0 where the edges are parallel.
+// The denominator of the places on both edges: 0 where the edges are parallel.
 fn denom_of(a: Corner, b: Corner, c: Corner, d: Corner) -> i64
     requires { ⌜ Near a ⌝ ∗ ⌜ Near b ⌝ ∗ ⌜ Near c ⌝ ∗ ⌜ Near d ⌝ }
     ensures value { λ r. ⌜ r ≡ denom a b c d ⌝ }
@@ -25,7 +25,7 @@ fn denom_of(a: Corner, b: Corner, c: Corner, d: Corner) -> i64
     a.x * (d.y - c.y) + b.x * (c.y - d.y) + d.x * (b.y - a.y) + c.x * (a.y - b.y)
 }
 
-// What a place on an edge is divided from, but for its sign.
+// The numerator of a place on an edge, but for its sign.
 fn num_of(p: Corner, q: Corner, r: Corner) -> i64
     requires { ⌜ Near p ⌝ ∗ ⌜ Near q ⌝ ∗ ⌜ Near r ⌝ }
     ensures value { λ z. ⌜ z ≡ numOf p q r ⌝ }
@@ -65,6 +65,16 @@ fn share_of(num: i64, denom: i64) -> Option<Mark>
         portion_of(-num, -denom)
     } else {
         portion_of(num, denom)
+    }
+}
+
+// Edges that are not parallel cross where both marks exist.
+fn crossing_of(s: Option<Mark>, t: Option<Mark>) -> Meet<Mark>
+    ensures { λ r. ⌜ r ≡ crossing s t ⌝ }
+{
+    match (s, t) {
+        (Some(loc1), Some(loc2)) => Meet::Crossing(loc1, loc2),
+        _ => Meet::Apart,
     }
 }
 
@@ -144,11 +154,7 @@ pub fn segments_intersection2d(a: Corner, b: Corner, c: Corner, d: Corner) -> Me
     if denom == 0 {
         return parallel_intersection(a, b, c, d);
     }
-    let Some(s) = share_of(num_of(a, c, d), denom) else {
-        return Meet::Apart;
-    };
-    let Some(t) = share_of(-num_of(a, b, c), denom) else {
-        return Meet::Apart;
-    };
-    Meet::Crossing(s, t)
+    let s = share_of(num_of(a, c, d), denom);
+    let t = share_of(-num_of(a, b, c), denom);
+    crossing_of(s, t)
 }

@@ -4,7 +4,18 @@ use crate::corner::Corner;
 use crate::math::minus;
 use plane::answer::Side;
 ghost use mathlib.Core.Path.{_≡_};
-ghost use Rattle.decimetre.specs.Exact.{sideOf, sideAt};
+ghost use Prim.Native.Nat.{_^_, _≤_};
+ghost use lib.IntN.{natAbs};
+ghost use Rattle.decimetre.specs.Exact.{area2, sideOf, sideAt, Near};
+
+// The doubled area of the triangle from a by b to c, above 0 where it turns left.
+fn area2_of(a: Corner, b: Corner, c: Corner) -> i64
+    requires { ⌜ Near a ⌝ ∗ ⌜ Near b ⌝ ∗ ⌜ Near c ⌝ }
+    ensures value { λ r. ⌜ r ≡ area2 a b c ⌝ }
+    ensures bound { λ r. ⌜ natAbs r ≤ 2 ^ 31 ⌝ }
+{
+    minus(b, a).perp_dot(minus(c, a))
+}
 
 /// The side that a product tells by its sign.
 pub(crate) fn side_of(product: i64) -> Side
@@ -23,10 +34,8 @@ pub(crate) fn side_of(product: i64) -> Side
 pub fn orientation2d(a: Corner, b: Corner, c: Corner) -> Side
     ensures { λ r. ⌜ r ≡ sideAt a b c ⌝ }
 {
-    if three_near(a, b, c) {
-        let area2 = minus(b, a).perp_dot(minus(c, a));
-        side_of(area2)
-    } else {
-        Side::Level
+    if !three_near(a, b, c) {
+        return Side::Level;
     }
+    side_of(area2_of(a, b, c))
 }

@@ -3,7 +3,6 @@ pub mod event;
 pub mod totals;
 
 pub use plane::ring::Ring;
-
 ghost use mathlib.Core.Path.{_≡_};
 ghost use Rattle.rules.specs.Example.{Examples-stand, star-after};
 ghost use Rattle.rules.specs.Promise.{Promise-over};

@@ -1,7 +1,7 @@
 use borrow.Author.Needs.{needs}
 use lib.Dec.{lit≤}
 use Prim.Native.Nat.{_^_, _<_}
-use Rattle.decimetre.proofs.Numbers.{Reads, coordinate, whole, less, less-fits, times, times-fits, plus, plus-fits}
+use Rattle.decimetre.proofs.Numbers.{coordinate, whole, less, less-fits, times, times-fits, plus, plus-fits}
 use Rattle.decimetre.proofs.segment.weighed.Needs as need
 
 pub sub-result : need.sub-result

@@ -1,5 +1,4 @@
 use mathlib.Core.Path.{_≡_, sym, _∙_}
-use mathlib.Core.Bool.{Bool, true, false, not}
 use lib.Dec.{eqb}
 use lib.IntN.{natAbs}
 use Rattle.std.proofs.shelf.Tests.{cond-false, not-true, not-false}

@@ -1,0 +1,10 @@
+pub mod Fractions
+pub mod Places
+pub mod Order
+pub mod Sums
+pub mod Products
+pub mod Whole
+pub mod Turned
+pub mod Quotients
+pub mod Bounds
+pub mod Units

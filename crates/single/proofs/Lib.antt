@@ -1,0 +1,4 @@
+pub mod Laws
+pub mod Outlines
+pub mod Finite
+pub mod Sane

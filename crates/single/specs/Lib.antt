@@ -1,0 +1,9 @@
+pub mod Tolerance
+pub mod Admitted
+pub mod Vectors
+pub mod Triangle
+pub mod Marks
+pub mod Meets
+pub mod Single
+pub mod Outlines
+pub mod Sane

@@ -54,6 +54,13 @@ fn owned(heap: Global, text: Option<&str>) -> Result<Option<String>, AllocError>
     }
 }
 
+fn yes_or_no(answer: Option<bool>) -> Option<&'static str> {
+    match answer? {
+        true => Some("yes"),
+        false => Some("no"),
+    }
+}
+
 fn in_decimetres(heap: Global, q: Question) -> Result<Option<String>, AllocError> {
     let Some(one) = ring::<Decimetre>(heap, q.one)? else {
         return Ok(None);
@@ -69,7 +76,10 @@ fn in_decimetres(heap: Global, q: Question) -> Result<Option<String>, AllocError
             let mut places = [Whole { x: 0, y: 0 }; 1024];
             let mut store = &mut places[0..1024];
             let mut outline = DecimetreOutline::empty();
-            owned(heap, inside(&Decimetre, one, two, &mut store, &mut outline))
+            owned(
+                heap,
+                yes_or_no(inside(&Decimetre, one, two, &mut store, &mut outline)),
+            )
         }
         _ => Ok(None),
     }
@@ -101,7 +111,10 @@ fn in_single(heap: Global, q: Question) -> Result<Option<String>, AllocError> {
             let mut places = [Corner { x: 0.0, y: 0.0 }; 1024];
             let mut store = &mut places[0..1024];
             let mut outline = SingleOutline::empty();
-            owned(heap, inside(&arith, one, two, &mut store, &mut outline))
+            owned(
+                heap,
+                yes_or_no(inside(&arith, one, two, &mut store, &mut outline)),
+            )
         }
         _ => Ok(None),
     }

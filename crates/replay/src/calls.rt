@@ -78,14 +78,10 @@ pub(crate) fn inside<'a, K: Arithmetic, O: Over<'a, K> + Drop>(
     two: &[K::Raw],
     store: &mut &'a mut [K::Corner],
     outline: &mut O,
-) -> Option<&'static str> {
+) -> Option<bool> {
     let p = point::<K>(one)?;
     if check::<K, O>(two, store, outline).is_err() {
         return None;
     }
-    Some(if point_in_poly2d(arith, p, outline) {
-        "yes"
-    } else {
-        "no"
-    })
+    Some(point_in_poly2d(arith, p, outline))
 }

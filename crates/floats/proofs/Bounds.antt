@@ -1,22 +1,22 @@
 -- Results of bounded floats are bounded, and so finite. Assumes nothing.
 use mathlib.Core.Path.{_≡_, refl, sym, ap, _∙_, subst}
-use mathlib.Core.Bool.{Bool, true, false, not, cond}
+use mathlib.Core.Bool.{Bool, true, false, cond}
 use Prim.Native.Nat.{ℕ, zero, suc, _+_, _*_, _^_, _≤_, _<_}
 use native.Mathlib.Nat.{zero-lt-suc, mul-pos, mul-le-mul, mul-le-mul-right, le-trans, le-of-eq, mul-mul-mul-comm, pow-suc, mul-one, one-mul}
 use native.Mathlib.Omega.{arith}
 use lib.Dec.{T, ltb, eqb, lit<, leb→le}
 use lib.IntN.{ℤ, pos}
 use lib.Pow.{pow-add, pow-lt, pow-mono}
-use lib.Ieee.{Float, Format, nan, inf, fin, binary32, prec, low, up, down, unlike, odd, units, round, sum, neg, add, sub, mul, div, lt, eq, le, isNan, ofBits}
+use lib.Ieee.{Float, Format, nan, inf, fin, binary32, prec, low, up, down, unlike, odd, units, round, neg, add, sub, mul, div, eq, le, isNan, ofBits}
 use lib.Ieee.Fits.{down-pos, round-is}
 use lib.Ieee.Exact.{HasValue, round-exact}
 use lib.Ieee.Order.{round-mono}
 use Rattle.std.proofs.shelf.Tests.{ne-eqb}
 use Rattle.floats.specs.Operations.{nought}
-use Rattle.floats.specs.Numbers.{signed, IsFraction}
+use Rattle.floats.specs.Numbers.{IsFraction}
 use Rattle.floats.specs.Bounds.{Within, Sum-bounded, Difference-bounded, Product-bounded, Quotient-number}
 use Rattle.floats.proofs.Fractions.{le-fraction}
-use Rattle.floats.proofs.Sums.{Totals, totals}
+use Rattle.floats.proofs.Sums.{totals}
 use Rattle.floats.proofs.Turned.{round-turned}
 
 -- ---- what is rounded is a number with the sign that it was given

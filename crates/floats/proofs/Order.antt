@@ -8,8 +8,8 @@ use lib.Signed.{ltZ}
 use lib.Ieee.{Float, nan, inf, fin, lt, eq, le, isNan}
 use lib.Ieee.Bits.{is-false as fails}
 use Rattle.std.proofs.shelf.Signed.{ints}
-use Rattle.floats.specs.Order.{upTo, Order-total, Order-transitive, Nan-last, Numbers-ordered}
-use Rattle.floats.proofs.Places.{Row, row, le-numbers, eq-numbers, of-lt, of-eq, of-le}
+use Rattle.floats.specs.Order.{Order-total, Order-transitive, Nan-last, Numbers-ordered}
+use Rattle.floats.proofs.Places.{row, le-numbers, eq-numbers, of-lt, of-eq, of-le}
 
 -- ---- three numbers
 
@@ -56,8 +56,8 @@ le-then-lt x y z p q =
 pub never-both : (x y : Float) → T (lt x y) → T (le y x) → ⊥
 never-both x y p q = T-not (lt x y) (subst T (le-numbers y x (of-le y x q .0) (of-le y x q .1)) q) p
 
-pub le-of-not-lt : (x y : Float) → T (not (isNan x)) → T (not (isNan y)) → T (not (lt x y)) → T (le y x)
-le-of-not-lt x y X Y p = subst T (sym (le-numbers y x Y X)) p
+pub up-to-unless-below : (x y : Float) → T (not (isNan x)) → T (not (isNan y)) → T (not (lt x y)) → T (le y x)
+up-to-unless-below x y X Y p = subst T (sym (le-numbers y x Y X)) p
 
 pub lt-implies-le : (x y : Float) → T (lt x y) → T (le x y)
 unfolding le

@@ -1,17 +1,17 @@
 -- Any floats that are numbers, the infinities among them, stand in the order of some whole numbers: so comparisons chain. Assumes nothing.
-use mathlib.Core.Path.{_≡_, refl, sym, ap, _∙_, subst}
+use mathlib.Core.Path.{_≡_, refl, sym, ap, _∙_}
 use mathlib.Core.Bool.{Bool, true, false, not, _&&_, _||_, Bool·beq}
 use Prim.Native.Nat.{ℕ, _+_, _*_, _<_}
 use native.Mathlib.Nat.{mul-pos}
 use native.Mathlib.Omega.{arith}
 use lib.Dec.{T}
 use lib.IntN.{ℤ, pos}
-use lib.Signed.{ltZ, leZ}
+use lib.Signed.{ltZ}
 use lib.Ieee.{Float, nan, inf, fin, up, down, lt, eq, le, isNan}
 use lib.Ieee.Fits.{down-pos}
 use lib.Ieee.Positive.{num, den, den-pos}
 use Rattle.std.proofs.shelf.Signed.{ints}
-use Rattle.floats.specs.Numbers.{signed, sameZ}
+use Rattle.floats.specs.Numbers.{signed}
 use Rattle.floats.proofs.Fractions.{lt-signed, eq-signed, lt-alike}
 
 -- a float in parts of a denominator k times its own, the infinities at ±b

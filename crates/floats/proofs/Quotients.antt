@@ -8,20 +8,20 @@ use native.Mathlib.Omega.{arith}
 use lib.Dec.{T, ltb, eqb, lit<, lit≤, ltb→lt, leb→le}
 use lib.IntN.{ℤ, pos, natAbs}
 use lib.Signed.{ltZ, leZ}
-use lib.Ieee.{Float, binary32, unlike, round, neg, sub, div, lt, eq, le, ofBits}
+use lib.Ieee.{Float, binary32, unlike, round, neg, sub, lt, eq, le, ofBits}
 use lib.Ieee.Bits.{is-true}
 use lib.Ieee.Scale.{round-same}
 use lib.Ieee.Order.{round-mono}
 use lib.Ieee.Positive.{positive, between, sub-anti}
 use Rattle.std.proofs.shelf.Tests.{cases-order, cases-eq, ne-eqb, eq-eqb, lt-ltb, le-ltb}
 use Rattle.std.proofs.shelf.Signed.{ints}
-use Rattle.floats.specs.Operations.{_⊖_, _⊘_, nought, unit}
-use Rattle.floats.specs.Numbers.{signed, IsWhole, sameZ}
-use Rattle.floats.specs.Quotients.{outsideZ, Placed, Ends, Quotient-placed, Rest-placed}
+use Rattle.floats.specs.Operations.{_⊖_, nought, unit}
+use Rattle.floats.specs.Numbers.{signed, sameZ}
+use Rattle.floats.specs.Quotients.{outsideZ, Ends, Quotient-placed, Rest-placed}
 use Rattle.floats.proofs.Fractions.{signed-size}
 use Rattle.floats.proofs.Products.{div-value}
 use Rattle.floats.proofs.Turned.{lt-turned, round-turned}
-use Rattle.floats.proofs.Order.{lt-then-le, le-then-lt, never-both, lt-implies-le, test-fails, not-below, below-not-level, above-not-level}
+use Rattle.floats.proofs.Order.{lt-then-le, le-then-lt, lt-implies-le, not-below, below-not-level, above-not-level}
 
 -- ---- the steps next to 0 and 1
 

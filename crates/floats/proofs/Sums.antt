@@ -1,12 +1,12 @@
 -- A sum or a difference of finite floats is that of the fractions, rounded once. Assumes nothing.
-use mathlib.Core.Path.{_≡_, refl, sym, ap, _∙_, subst}
+use mathlib.Core.Path.{_≡_, refl, sym, ap, _∙_}
 use mathlib.Core.Logic.{inl, inr}
 use mathlib.Core.Bool.{Bool, true, false, not, cond, _&&_}
 use Prim.Native.Nat.{ℕ, zero, suc, _+_, _-_, _*_, _≤_, _<_}
 use native.Mathlib.Nat.{mul-pos, mul-sub, mul-comm}
 use native.Mathlib.Omega.{arith}
 use lib.Dec.{ltb}
-use lib.IntN.{ℤ, pos, negℤ, _+ℤ_, _-ℤ_}
+use lib.IntN.{ℤ, negℤ, _+ℤ_, _-ℤ_}
 use lib.Ieee.{Float, Format, nan, inf, fin, up, down, round, sum, neg, add, sub}
 use lib.Ieee.Fits.{down-pos}
 use lib.Ieee.Exact.{HasValue}

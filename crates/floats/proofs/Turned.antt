@@ -4,7 +4,7 @@ use mathlib.Core.Bool.{Bool, true, false, not, cond, _&&_}
 use Prim.Native.Nat.{ℕ, zero, suc, _*_, _^_}
 use native.Mathlib.Nat.{add-comm}
 use lib.Dec.{ltb}
-use lib.Ieee.{Float, Format, nan, inf, fin, prec, emax, low, up, down, odd, units, round, below, neg, lt}
+use lib.Ieee.{Float, Format, nan, inf, fin, prec, low, up, down, odd, units, round, below, neg, lt}
 use lib.Ieee.Fits.{round-is}
 
 -- ---- comparisons

@@ -20,7 +20,7 @@ use Rattle.floats.specs.Numbers.{signed, IsFraction}
 use Rattle.floats.specs.Bounds.{Within}
 use Rattle.floats.specs.Units.{InUnit, Steps, Steps-ordered, Step-some, Part-in-unit, Rest-in-unit}
 use Rattle.floats.proofs.Fractions.{lt-fraction, le-fraction}
-use Rattle.floats.proofs.Sums.{Rounded, sub-rounded}
+use Rattle.floats.proofs.Sums.{sub-rounded}
 use Rattle.floats.proofs.Products.{div-value}
 use Rattle.floats.proofs.Turned.{round-turned}
 use Rattle.floats.proofs.Order.{le-then-le, lt-then-le}

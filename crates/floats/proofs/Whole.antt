@@ -4,15 +4,15 @@ use mathlib.Core.Bool.{Bool, true, false, not}
 use Prim.Native.Nat.{ℕ, zero, suc, _*_, _^_, _≤_, _<_}
 use native.Mathlib.Nat.{mul-pos, zero-lt-suc}
 use native.Mathlib.Omega.{arith}
-use lib.IntN.{ℤ, pos, negsuc, negℤ, natAbs, _+ℤ_, _-ℤ_, _*ℤ_}
-use lib.Ieee.{Float, Format, binary32, prec, unlike, round, neg, add, sub, mul, ofInt, ofBits}
+use lib.IntN.{ℤ, pos, negsuc, negℤ, natAbs, _+ℤ_, _*ℤ_}
+use lib.Ieee.{Float, Format, binary32, prec, unlike, round, neg, sub, mul, ofInt, ofBits}
 use lib.Ieee.Exact.{HasValue}
 use lib.Ieee.Back.{round-whole}
 use Rattle.floats.specs.Operations.{nought, unit}
 use Rattle.floats.specs.Numbers.{signed, IsWhole}
 use Rattle.floats.specs.Whole.{Whole-held, Whole-sum, Whole-difference, Whole-product, Whole-negation, Whole-compared, Same-difference, Same-product, Minus-nought}
 use Rattle.floats.proofs.Fractions.{signed-size, lt-fraction, le-fraction, eq-fraction}
-use Rattle.floats.proofs.Sums.{Rounded, Totals, totals, add-value, neg-value, signed-neg, neg-fraction, add-rounded, sub-rounded}
+use Rattle.floats.proofs.Sums.{Rounded, totals, add-value, neg-value, signed-neg, neg-fraction, add-rounded, sub-rounded}
 use Rattle.floats.proofs.Products.{signed-mul, mul-value, mul-rounded}
 
 -- ---- by value

@@ -22,6 +22,10 @@ use Rattle.single.specs.Admitted.{farthest, inReach, isAdmitted}
 use Rattle.single.specs.Meets.{denomOf, num1Of, num2Of}
 use Rattle.single.specs.Sane.{FiniteCorner, AllAdmitted, FiniteParts}
 
+-- a test's answer as a fact
+pub holds : (b : Bool) → b ≡ true → T b
+holds b h = subst T (sym h) tt
+
 -- ---- one number
 
 farthest-value : (c : ℕ) → HasValue farthest false (2 ^ 59 * c) c
@@ -43,7 +47,6 @@ fin-within s m e p q =
     let n = 2 ^ 59 * c in
     let C = down-pos e in
     let X : IsFraction (fin s m e) (signed s (m * up e)) c = record { sign = s; size = m * up e; value = (refl, refl); is = refl } in
-    let holds : (b : Bool) → b ≡ true → T b = λ b h. subst T (sym h) tt in
     size-in s (m * up e) n
     (subst T (le-fraction (neg farthest) (fin s m e) (negℤ (pos n)) (signed s (m * up e)) c C (neg-fraction farthest (pos n) c (farthest-fraction c)) X) (holds _ p))
     (subst T (le-fraction (fin s m e) farthest (signed s (m * up e)) (pos n) c C X (farthest-fraction c)) (holds _ q))

@@ -1,8 +1,4 @@
 -- Single precision keeps the arithmetic's law. Assumes nothing.
-use mathlib.Core.Path.{_≡_, sym, subst}
-use mathlib.Core.Bool.{Bool, true, false, _||_}
-use mathlib.Core.Logic.{_⊎_, inl, inr}
-use lib.Dec.{T}
 use lib.Ieee.Bits.{is-true}
 use Rattle.std.proofs.shelf.Tests.{or-cases}
 use Rattle.plane.specs.Meaning.{Ordered}
@@ -11,9 +7,7 @@ use Rattle.floats.proofs.Order as order
 use Rattle.single.specs.declared.tolerance.Single.{Single}
 use Rattle.single.specs.Marks.{bcoordsOf}
 use Rattle.single.specs.Single.{single}
-
-holds : (b : Bool) → b ≡ true → T b
-holds b e = subst T (sym e) tt
+use Rattle.single.proofs.Finite.{holds}
 
 -- of any two marks one is not after the other, and not after is transitive, given by meet or not
 pub ordered : (self : Single) → Ordered single self

@@ -1,4 +1,4 @@
+pub mod Finite
 pub mod Laws
 pub mod Outlines
-pub mod Finite
 pub mod Sane

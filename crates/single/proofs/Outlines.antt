@@ -5,13 +5,11 @@ use mathlib.Core.List.{List, [], _∷_}
 use Prim.Native.Nat.{ℕ}
 use native.Mathlib.Omega.{arith}
 use Rattle.std.specs.shelf.Lists.{All}
-use Rattle.std.specs.declared.option.Option.{Option}
 use Rattle.std.specs.declared.option.Option.the-variants.{Some, None}
 use Rattle.std.proofs.shelf.Tests.{and-parts, and-from, cond-true}
 use Rattle.plane.specs.Meaning.{Admitted}
 use Rattle.single.specs.declared.corner.Corner.{Corner}
-use Rattle.single.specs.declared.corner.Pair.{Pair}
-use Rattle.single.specs.Admitted.{isAdmitted, cornerOf, admitted}
+use Rattle.single.specs.Admitted.{isAdmitted, cornerOf}
 use Rattle.single.specs.Single.{single}
 use Rattle.single.specs.Outlines.{allAdmitted}
 

@@ -1,5 +1,5 @@
 -- The marks that admitted corners give are numbers from 0 to 1. Assumes nothing.
-use mathlib.Core.Path.{_≡_, refl, sym, ap, _∙_, subst}
+use mathlib.Core.Path.{_≡_, refl, sym, _∙_, subst}
 use mathlib.Core.Logic.{inl, inr}
 use mathlib.Core.Bool.{Bool, true, false, not, cond, _&&_, _||_, true≢false}
 use Prim.Native.Nat.{ℕ, _*_}
@@ -16,12 +16,12 @@ use Rattle.std.specs.declared.option.Option.the-variants.{Some, None}
 use Rattle.std.proofs.shelf.Signed.{ints}
 use Rattle.std.proofs.shelf.Tests.{cases-bool, cond-both, and-parts, or-parts, both-ways, not-true}
 use Rattle.plane.specs.declared.answer.Meet.{Meet}
-use Rattle.plane.specs.declared.answer.Meet.the-variants.{Apart, Crossing, Overlap}
+use Rattle.plane.specs.declared.answer.Meet.the-variants.{Apart, Crossing}
 use Rattle.floats.specs.Operations.{_⊖_, _⊘_, nought, unit}
 use Rattle.floats.specs.Numbers.{signed, IsFraction}
 use Rattle.floats.specs.Bounds.{Within}
 use Rattle.floats.specs.Units.{InUnit}
-use Rattle.floats.proofs.Order.{le-then-le, le-of-not-lt, le-not-level, eq-turned}
+use Rattle.floats.proofs.Order.{le-then-le, up-to-unless-below, le-not-level, eq-turned}
 use Rattle.floats.proofs.Fractions.{eq-fraction, le-fraction}
 use Rattle.floats.proofs.Bounds.{difference-bounded, quotient-number}
 use Rattle.floats.proofs.Units.{steps-ordered, step-some, part-in-unit, rest-in-unit, nought-fraction}
@@ -31,10 +31,7 @@ use Rattle.single.specs.declared.corner.Mark.the-variants.{Start, Inside, End}
 use Rattle.single.specs.Triangle.{orientationOf}
 use Rattle.single.specs.Meets.{ulp, isParallel, classified, isOut, denomOf, num1Of, num2Of, crossingOf, along, betweenOf, both, overlapOf, isLevel, parallelOf, meetOf}
 use Rattle.single.specs.Sane.{AllAdmitted, SaneMark, SaneMeet}
-use Rattle.single.proofs.Finite.{WithinCorner, admitted-within, num1-within, num2-within, denom-within}
-
-holds : (b : Bool) → b ≡ true → T b
-holds b h = subst T (sym h) tt
+use Rattle.single.proofs.Finite.{holds, WithinCorner, admitted-within, num1-within, num2-within, denom-within}
 
 fails : (b : Bool) → b ≡ false → T (not b)
 fails b h = subst (λ (v : Bool). T (not v)) (sym h) tt
@@ -90,8 +87,8 @@ not-level k v epsilon w h =
 
 in-unit : (q : Float) → isNan q ≡ false → lt q nought ≡ false → lt unit q ≡ false → InUnit q
 in-unit q n l h = record {
-  low = le-of-not-lt q nought (fails (isNan q) n) nought-number (fails (lt q nought) l);
-  high = le-of-not-lt unit q unit-number (fails (isNan q) n) (fails (lt unit q) h);
+  low = up-to-unless-below q nought (fails (isNan q) n) nought-number (fails (lt q nought) l);
+  high = up-to-unless-below unit q unit-number (fails (isNan q) n) (fails (lt unit q) h);
 }
 
 crossing-sane : (s t : Float) → isNan s ≡ false → isNan t ≡ false → SaneMeet (crossingOf s t)

@@ -3,7 +3,7 @@ use mathlib.Core.Bool.{Bool, cond, not, _&&_}
 use lib.Ieee.{Float, neg, lt, le}
 use Rattle.plane.specs.declared.answer.Side.{Side}
 use Rattle.plane.specs.declared.answer.Side.the-variants.{Left, Right, Level}
-use Rattle.floats.specs.Operations.{_⊖_, nought}
+use Rattle.floats.specs.Operations.{nought}
 use Rattle.single.specs.declared.corner.Corner.{Corner}
 use Rattle.single.specs.Vectors.{origin, minus, perpDot, dotOf}
 

@@ -1,7 +1,7 @@
 -- A whole corner on the line of a whole edge is found at its exact place. Assumes nothing.
 use mathlib.Core.Path.{_≡_, refl, sym, ap, _∙_}
 use mathlib.Core.Bool.{Bool, true, false, not, cond, _&&_}
-use Prim.Native.Nat.{ℕ, _<_}
+use Prim.Native.Nat.{_<_}
 use native.Mathlib.Nat.{le-trans}
 use native.Mathlib.Omega.{arith}
 use lib.Dec.{T, lit≤}
@@ -22,7 +22,7 @@ use Rattle.single.specs.Meets.{classified, along}
 use Rattle.whole.specs.Spots.{Place, Nowhere, AtStart, AtEnd, Within, placeZ}
 use Rattle.whole.specs.Exact.{placeOf, foundAt, Exact-between}
 use Rattle.whole.proofs.Sizes.{Near, less}
-use Rattle.whole.proofs.Sides.{NearVector, corner}
+use Rattle.whole.proofs.Sides.{corner}
 
 -- ---- on whole numbers: w is from u up to v, or back from u down to v, in the order of the tests
 

@@ -4,7 +4,6 @@ use mathlib.Core.Bool.{cond}
 use mathlib.Core.List.{List, [], _∷_, _++_}
 use Prim.Native.Nat.{ℕ, _+_, _%_}
 use lib.Dec.{eqb}
-use lib.ListN.{take, drop}
 use Rattle.plane.specs.Rings.{Edge, paired, edges, howMany, passes}
 use Rattle.single.specs.declared.tolerance.Single.{Single}
 use Rattle.single.specs.declared.corner.Corner.{Corner}

@@ -14,7 +14,7 @@ use Rattle.floats.specs.Operations.{nought, unit, _⊖_, _⊗_, _⊘_}
 use Rattle.floats.specs.Numbers.{IsWhole}
 use Rattle.floats.specs.Quotients.{Placed}
 use Rattle.floats.proofs.Fractions.{signed-size}
-use Rattle.floats.proofs.Order.{lt-then-le, le-then-le, lt-implies-le, never-both}
+use Rattle.floats.proofs.Order.{le-then-le, lt-implies-le, never-both}
 use Rattle.floats.proofs.Whole.{compared, nought-whole, unit-whole}
 use Rattle.floats.proofs.Quotients as quotients
 use Rattle.single.specs.declared.corner.Corner.{Corner}
@@ -23,7 +23,7 @@ use Rattle.single.specs.Meets.{ulp, isParallel, denomOf, num1Of, num2Of, isOut,
 use Rattle.whole.specs.Spots.{Spot, denomZ, num1Z, num2Z}
 use Rattle.whole.specs.Exact.{WholeCorner, isApart, Exact-parallel, Exact-crossing}
 use Rattle.whole.proofs.Sizes.{Near, plus, less, times, turned}
-use Rattle.whole.proofs.Sides.{NearVector, corner, by-both}
+use Rattle.whole.proofs.Sides.{corner, by-both}
 
 -- ---- D, S and T
 

@@ -19,9 +19,8 @@ use Rattle.single.specs.declared.corner.Mark.{Mark}
 use Rattle.single.specs.declared.corner.Mark.the-variants.{Start, Inside, End}
 use Rattle.single.specs.Triangle.{orientationOf}
 use Rattle.single.specs.Meets.{denomOf, num1Of, num2Of, isLevel, isOut, classified, crossingOf, both, overlapOf, parallelOf, betweenOf}
-use Rattle.whole.specs.Spots.{Spot, areaZ, sideZ, Place, Nowhere, AtStart, AtEnd, Within, placeZ, betweenZ, Shape, Separate, Crosses, Overlaps, denomZ, num1Z, num2Z, isThere, ifBoth, overlapZ, crossingZ, parallelZ}
+use Rattle.whole.specs.Spots.{Spot, areaZ, sideZ, Place, Nowhere, AtStart, AtEnd, Within, placeZ, Shape, Separate, Crosses, Overlaps, denomZ, num1Z, num2Z, isThere, ifBoth, overlapZ, crossingZ, parallelZ}
 use Rattle.whole.specs.Exact.{WholeCorner, Slight, placeOf, foundAt, shapeOf, Exact-meet}
-use Rattle.whole.proofs.Sizes.{Near}
 use Rattle.whole.proofs.Sides.{exact-side}
 use Rattle.whole.proofs.Meets.{denom-near, exact-parallel, s-placed, t-placed, or-apart}
 use Rattle.whole.proofs.Between.{mark-place, exact-between}

@@ -7,7 +7,7 @@ use lib.IntN.{ℤ, pos, negℤ, natAbs, _+ℤ_, _-ℤ_, _*ℤ_}
 use lib.Signed.{ltZ, leZ}
 use Rattle.plane.specs.declared.answer.Side.{Side}
 use Rattle.plane.specs.declared.answer.Side.the-variants.{Left, Right, Level}
-use Rattle.plane.specs.Rings.{Edge, edges, howMany}
+use Rattle.plane.specs.Rings.{edges, howMany}
 use Rattle.floats.specs.Numbers.{sameZ}
 use Rattle.floats.specs.Quotients.{outsideZ}
 use Rattle.single.specs.Meets.{isLevel}

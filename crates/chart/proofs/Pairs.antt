@@ -1,8 +1,8 @@
 -- How many pairs pass a test, edge by edge of the first ring. Assumes nothing.
-use mathlib.Core.Path.{_≡_, refl, sym, ap, _∙_}
-use mathlib.Core.Bool.{Bool, true, false, cond}
+use mathlib.Core.Path.{_≡_, refl, ap, _∙_}
+use mathlib.Core.Bool.{Bool, false, cond}
 use mathlib.Core.List.{List, [], _∷_, _++_, map}
-use Prim.Native.Nat.{ℕ, _+_, _*_, _≤_}
+use Prim.Native.Nat.{ℕ, _+_, _≤_}
 use native.Mathlib.Omega.{arith}
 use lib.ListN.{length, drop}
 use Rattle.std.proofs.shelf.Lists.{at-drop-all}
@@ -23,7 +23,7 @@ module _ {X Y : Type 0} (test : X → Y → Bool) where
   abbrev pub both : X × Y → Bool
   both p = test (p .0) (p .1)
 
-  pairs-more : (x : X) (xs : List X) (ys : List Y) → howMany both (pairs (x ∷ xs) ys) ≡ howMany (test x) ys + howMany both (pairs xs ys)
+  pub pairs-more : (x : X) (xs : List X) (ys : List Y) → howMany both (pairs (x ∷ xs) ys) ≡ howMany (test x) ys + howMany both (pairs xs ys)
   pairs-more x xs ys = howMany-++ both (map (λ y. (x, y)) ys) (pairs xs ys) ∙ ap (λ n. n + howMany both (pairs xs ys)) (howMany-map both (λ y. (x, y)) ys)
 
   -- the step of a loop over the first list

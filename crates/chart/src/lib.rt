@@ -1,4 +1,6 @@
 // The crossings of two outlines.
+#![tactic(auto)]
+
 mod chain;
 pub mod count;
 mod fill;

@@ -1,4 +1,6 @@
 // The exact arithmetic: corners in whole decimetres, and nothing rounded.
+#![tactic(auto)]
+
 pub mod admit;
 pub mod corner;
 pub mod direction;

@@ -1,4 +1,6 @@
 // Facts on single precision: what its numbers are, and what its operations and comparisons give.
+#![tactic(auto)]
+
 ghost use Rattle.floats.specs.Bounds.{SumBounded, DifferenceBounded, ProductBounded, QuotientNumber};
 ghost use Rattle.floats.specs.Order.{OrderTotal, OrderTransitive, NanLast, NumbersOrdered};
 ghost use Rattle.floats.specs.Quotients.{QuotientPlaced, RestPlaced};

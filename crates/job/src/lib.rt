@@ -1,4 +1,6 @@
 // Jobs: two outlines in whole decimetres, read from bytes.
+#![tactic(auto)]
+
 pub mod job;
 pub mod laws;
 pub mod outlines;

@@ -1,4 +1,6 @@
 // The program: a job on standard input; how many corners its outlines have and how many crossings, on standard output.
+#![tactic(auto)]
+
 mod failure;
 mod look;
 

@@ -1,4 +1,6 @@
 // The plane that outlines lie in: refusals, what an arithmetic answers, checked outlines, and the inside test.
+#![tactic(auto)]
+
 pub mod answer;
 pub mod arithmetic;
 pub mod check;

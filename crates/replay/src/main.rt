@@ -1,4 +1,6 @@
 // Replays vectors: prints each line of standard input, up to an arrow, completed with its answer.
+#![tactic(auto)]
+
 mod answer;
 mod calls;
 mod text;

@@ -1,4 +1,6 @@
 // The rules of the walk over two rings that cross, and what they promise of every string of its calls.
+#![tactic(auto)]
+
 pub mod event;
 pub mod totals;
 

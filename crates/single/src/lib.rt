@@ -1,4 +1,6 @@
 // Single-precision arithmetic: every operation rounds once.
+#![tactic(auto)]
+
 pub mod admit;
 pub mod arithmetic;
 pub mod corner;

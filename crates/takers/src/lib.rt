@@ -1,4 +1,6 @@
 // What takes a walk's events: the trait, and the takers that the library brings.
+#![tactic(auto)]
+
 pub mod cap;
 pub mod laws;
 pub mod list;

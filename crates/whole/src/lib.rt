@@ -1,4 +1,6 @@
 // Whole corners in single precision.
+#![tactic(auto)]
+
 ghost use Rattle.whole.specs.Exact.{WalkSlight, ExactSide, ExactTurn, ExactAgainst, ExactParallel, ExactCrossing, ExactBetween, ExactMeet, ExactPassed, ExactInside};
 
 /// On whole corners within 1,024 of the origin, at a tolerance from 0 to below 1, single precision answers as whole numbers do.

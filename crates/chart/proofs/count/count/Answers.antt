@@ -8,11 +8,11 @@ use Rattle.chart.proofs.count.count.Given as given
 use Rattle.chart.proofs.count.count.Goals as goal
 
 -- an edge crosses at most as many others as the other ring has
-few : (g : given.Over) (c : goal.After-cross-edge-found g) → c.cross-edge-found.result ≤ most_corners
+few : (g : given.Over) (c : goal.After-cross_edge-found g) → c.cross_edge-found.result ≤ most_corners
 few g c =
     let other = c.corners-other.result.now in
     let most = how_many≤ (crosses g.K.Arithmetic.meaning c.args.arith.now (edge c.index-ring-i.result c.index-ring-i-in-loop-i.result)) (edges other) in
-    omega (arith, c.cross-edge-found.ensures, most, length-edges other, c.corners-other.ensures.short)
+    omega (arith, c.cross_edge-found.ensures, most, length-edges other, c.corners-other.ensures.short)
 
 pub overflow-add-found : goal.overflow-add-found
 overflow-add-found g c = omega (arith, few g c, c.loop-i.invariant.0, c.corners-ring.ensures.short)
@@ -25,7 +25,7 @@ loop-i-preserved g c =
     let e = edge c.index-ring-i.result c.index-ring-i-in-loop-i.result in
     let next = edges_read ring c.loop-i.i c.index-ring-i.result c.index-ring-i-in-loop-i.result c.loop-i-test.true c.index-ring-i.is c.index-ring-i-in-loop-i.is in
     let more = pairs_next test e (edges ring) fs c.loop-i.i c.loop-i.found next c.loop-i.invariant.1 in
-    (omega (arith, few g c, c.loop-i.invariant.0), omega (arith, c.cross-edge-found.ensures, more))
+    (omega (arith, few g c, c.loop-i.invariant.0), omega (arith, c.cross_edge-found.ensures, more))
 
 pub returns : goal.returns
 returns g c =

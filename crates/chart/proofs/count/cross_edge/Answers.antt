@@ -4,7 +4,7 @@ use Rattle.plane.proofs.Edges.{edge, edges_read, length-edges, how_many_more, ho
 use Rattle.chart.specs.Crossings.{crosses, is_crossing}
 use Rattle.chart.proofs.Pairs.{not_crossing}
 use Rattle.chart.proofs.count.cross_edge.Goals as goal
-use Rattle.chart.proofs.count.cross_edge.Goals.{in-Crossing, in-default}
+use Rattle.chart.proofs.count.cross_edge.Goals.{in-Crossing, in_default}
 
 pub loop-j-preserved : goal.loop-j-preserved
 loop-j-preserved g c =
@@ -15,10 +15,10 @@ loop-j-preserved g c =
     let more : c.match-meet.found ≡ c.loop-j.found + cond (test f) 1 0 =
     elim c.match-meet.branch [
       | in-Crossing w ↦ w.found_is ∙ ap (λ b. c.loop-j.found + cond b 1 0) (ap is_crossing (sym w.in-Crossing.is ∙ c.meet.ensures))
-      | in-default w ↦ omega (arith, w.found_is, ap (λ b. c.loop-j.found + cond b 1 0) (ap is_crossing (sym c.meet.ensures) ∙ not_crossing c.meet.result w.in-default.not-Crossing))
+      | in_default w ↦ omega (arith, w.found_is, ap (λ b. c.loop-j.found + cond b 1 0) (ap is_crossing (sym c.meet.ensures) ∙ not_crossing c.meet.result w.in_default.not-Crossing))
     ] in
     let low : c.match-meet.found ≤ c.loop-j.j + 1 =
-    elim c.match-meet.branch [ in-Crossing w ↦ omega (arith, w.found_is) | in-default w ↦ omega (arith, w.found_is) ] in
+    elim c.match-meet.branch [ in-Crossing w ↦ omega (arith, w.found_is) | in_default w ↦ omega (arith, w.found_is) ] in
     (low, how_many_more test f (edges ring) c.loop-j.j c.loop-j.found c.match-meet.found next more c.loop-j.invariant.1)
 
 pub returns : goal.returns

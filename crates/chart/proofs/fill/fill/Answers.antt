@@ -10,8 +10,8 @@ use Rattle.chart.proofs.fill.fill.Goals as goal
 pub loop-i-init : goal.loop-i-init
 loop-i-init g c = filled_none c.args.records.now 0 _
 
-pub fill-edge-found-requires : goal.fill-edge-found-requires
-fill-edge-found-requires g c =
+pub fill_edge-found-requires : goal.fill_edge-found-requires
+fill_edge-found-requires g c =
     record {
       short = c.requires.short.1;
       room = filled_room c.args.records.now 0 _ c.loop-i.records _ _ _ c.loop-i.found
@@ -21,9 +21,9 @@ fill-edge-found-requires g c =
 
 pub loop-i-preserved : goal.loop-i-preserved
 loop-i-preserved g c =
-    filled_part c.args.records.now 0 _ c.loop-i.records c.fill-edge-found.new.records _ _ _ c.loop-i.found c.fill-edge-found.result
+    filled_part c.args.records.now 0 _ c.loop-i.records c.fill_edge-found.new.records _ _ _ c.loop-i.found c.fill_edge-found.result
     (from_next g.K.Arithmetic.meaning c.args.arith.now c.args.one.now (edges c.args.two.now) c.loop-i.i c.index-one-i-in-loop-i.result c.index-one-i.result c.loop-i-test.true c.index-one-i-in-loop-i.is c.index-one-i.is)
-    c.loop-i.invariant c.fill-edge-found.ensures
+    c.loop-i.invariant c.fill_edge-found.ensures
 
 pub returns : goal.returns
 returns g c =

@@ -22,10 +22,10 @@ returns g c =
     let lt : next < length records = omega (arith, ap length (written g c), c.requires) in
     filled_more records next _ records [] next _ lt (filled_same records next _ records _ _ next (written g c) (filled_none records next _))
 
-pub returns-in-default : goal.returns-in-default
-returns-in-default g c =
+pub returns-in_default : goal.returns-in_default
+returns-in_default g c =
     let records = c.args.records.now in
     let next = c.args.next in
     filled_same records next _ records _ [] next
-    (ap (λ r. records_by (leaving_side g.K.Arithmetic.meaning c.args.arith.now (edge c.args.a c.args.b) (edge c.args.c c.args.d)) c.args.i c.args.j r) (sym c.meet.ensures) ∙ no_record _ c.args.i c.args.j c.meet.result c.in-default.not-Crossing)
+    (ap (λ r. records_by (leaving_side g.K.Arithmetic.meaning c.args.arith.now (edge c.args.a c.args.b) (edge c.args.c c.args.d)) c.args.i c.args.j r) (sym c.meet.ensures) ∙ no_record _ c.args.i c.args.j c.meet.result c.in_default.not-Crossing)
     (filled_none records next _)

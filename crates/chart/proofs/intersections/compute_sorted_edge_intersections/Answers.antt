@@ -9,8 +9,8 @@ use Rattle.chart.proofs.Noting.{length-records}
 use Rattle.chart.proofs.Telling.{few_crossings}
 use Rattle.chart.proofs.intersections.compute_sorted_edge_intersections.Goals as goal
 
-pub refusal-of-requires : goal.refusal-of-requires
-refusal-of-requires g c =
+pub refusal_of-requires : goal.refusal_of-requires
+refusal_of-requires g c =
     let m = g.K.Arithmetic.meaning in
     let a = c.args.arith.now in
     let ring = c.corners-ring.result.now in
@@ -24,7 +24,7 @@ tabulate-requires g c =
     let a = c.args.arith.now in
     let ring = c.corners-ring.result.now in
     let other = c.corners-other.result.now in
-    let fit = c.refusal-of.ensures.fits c.in-default.is in
+    let fit = c.refusal_of.ensures.fits c.in_default.is in
     let is : c.count-found.result ≡ crossings m a ring other = c.count-found.ensures ∙ sym (ap₂ (crossings m a) c.corners-ring.ensures.value c.corners-other.ensures.value) in
     record {
       short = (c.corners-ring.ensures.short, c.corners-other.ensures.short);
@@ -42,7 +42,7 @@ returns-in-Some g c =
     let one = g.O.Outline.list c.args.one.now in
     let two = g.P.Outline.list c.args.two.now in
     record {
-      answer = sym (ap told_of c.in-Some.is) ∙ c.refusal-of.ensures.answer
+      answer = sym (ap told_of c.in-Some.is) ∙ c.refusal_of.ensures.answer
           ∙ ap (λ (k : ℕ). refused_for (length c.corners-ring.result.now) (length c.corners-other.result.now) k (length rs) (length ws)) c.count-found.ensures
           ∙ ap₂ (λ (p q : List g.row.K-Corner.Denot). refused_for (length p) (length q) (crossings m a one two) (length rs) (length ws)) c.corners-ring.ensures.value c.corners-other.ensures.value;
       kept = λ _. (refl, refl);
@@ -65,7 +65,7 @@ returns g c =
     let found = c.count-found.result in
     let top : 6 * found + length c.corners-ring.result.now + length c.corners-other.result.now ≡ 6 * crossings m a one two + length one + length two = omega (arith, c.count-found.ensures, ap length e, ap length f) in
     record {
-      answer = sym (ap told_of c.in-default.is) ∙ c.refusal-of.ensures.answer
+      answer = sym (ap told_of c.in_default.is) ∙ c.refusal_of.ensures.answer
           ∙ ap (λ (k : ℕ). refused_for (length c.corners-ring.result.now) (length c.corners-other.result.now) k (length rs) (length ws)) c.count-found.ensures
           ∙ ap₂ (λ (p q : List g.row.K-Corner.Denot). refused_for (length p) (length q) (crossings m a one two) (length rs) (length ws)) e f;
       kept = λ p. absurd (true≢false p);

@@ -11,8 +11,8 @@ use Rattle.chart.proofs.intersections.tabulate.Goals as goal
 pub fill-requires : goal.fill-requires
 fill-requires g c = record { short = c.requires.short; room = omega (arith, c.requires.all, c.requires.fits.0) }
 
-pub chain-all-requires : goal.chain-all-requires
-chain-all-requires g c =
+pub chain_all-requires : goal.chain_all-requires
+chain_all-requires g c =
     let m = g.K.Arithmetic.meaning in
     let a = c.args.arith.now in
     let one = c.args.one.now in
@@ -39,8 +39,8 @@ returns g c =
     record {
       written = c.fill.ensures ∙ ap (λ (k : ℕ). rs ++ drop k c.args.records.now) (sym c.requires.all);
       told =
-          told-front rs more (m.not_after a) (record { one = length one; two = length two }) (inner_where m a (length rs) one two) c.chain-all.new.words
-          (subst (λ (cs : List (Record g.row.K-Mark.Denot)). Chained (m.not_after a) (record { one = length one; two = length two }) cs (length rs) c.chain-all.new.words) c.fill.ensures
-          (subst (λ (k : ℕ). Chained (m.not_after a) (record { one = length one; two = length two }) c.fill.new.records k c.chain-all.new.words) c.requires.all c.chain-all.ensures.told));
-      rest = drop_further c.chain-all.new.words c.args.words.now (length one + length two + 6 * c.args.found) (6 * c.args.found + length one + length two) (omega arith) c.chain-all.ensures.rest;
+          told-front rs more (m.not_after a) (record { one = length one; two = length two }) (inner_where m a (length rs) one two) c.chain_all.new.words
+          (subst (λ (cs : List (Record g.row.K-Mark.Denot)). Chained (m.not_after a) (record { one = length one; two = length two }) cs (length rs) c.chain_all.new.words) c.fill.ensures
+          (subst (λ (k : ℕ). Chained (m.not_after a) (record { one = length one; two = length two }) c.fill.new.records k c.chain_all.new.words) c.requires.all c.chain_all.ensures.told));
+      rest = drop_further c.chain_all.new.words c.args.words.now (length one + length two + 6 * c.args.found) (6 * c.args.found + length one + length two) (omega arith) c.chain_all.ensures.rest;
     }

@@ -21,12 +21,12 @@ up s = away_y s.args.c s.args.a s.minus-ac.ensures.value s.minus-ac.ensures.shor
 pub returns-then-ab-ne0 : goal.returns-then-ab-ne0
 returns-then-ab-ne0 c =
     let s = (goal.at.returns-then-ab-ne0 c).After-minus-ac in
-    c.share-of.ensures ∙ ap₂ share (along s).is (run s).is ∙ sym (by_x c.args.a c.args.b c.args.c (not_zero (ap (λ v. v.x) c.minus-ab.ensures.value) c.if-ab-ne0.true))
+    c.share_of.ensures ∙ ap₂ share (along s).is (run s).is ∙ sym (by_x c.args.a c.args.b c.args.c (not_zero (ap (λ v. v.x) c.minus-ab.ensures.value) c.if-ab-ne0.true))
 
 pub returns-then-ab-ne0-2 : goal.returns-then-ab-ne0-2
 returns-then-ab-ne0-2 c =
     let s = (goal.at.returns-then-ab-ne0-2 c).After-minus-ac in
-    c.share-of-then-ab-ne0-2.ensures ∙ ap₂ share (up s).is (rise s).is ∙ sym (by_y c.args.a c.args.b c.args.c (is_zero c.minus-ab.result.x (run s) c.if-ab-ne0.false) (not_zero (ap (λ v. v.y) c.minus-ab.ensures.value) c.if-ab-ne0-2.true))
+    c.share_of-then-ab-ne0-2.ensures ∙ ap₂ share (up s).is (rise s).is ∙ sym (by_y c.args.a c.args.b c.args.c (is_zero c.minus-ab.result.x (run s) c.if-ab-ne0.false) (not_zero (ap (λ v. v.y) c.minus-ab.ensures.value) c.if-ab-ne0-2.true))
 
 pub returns-then-ac-eq0-2 : goal.returns-then-ac-eq0-2
 returns-then-ac-eq0-2 c =

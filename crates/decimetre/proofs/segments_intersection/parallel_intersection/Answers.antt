@@ -18,4 +18,4 @@ returns-then-ne c =
 pub returns : goal.returns
 returns c =
     let on = level (goal.at.returns c).After-ne ∙ not-false c.ne.ensures.0 (sym c.ne.ensures.2 ∙ c.if-ne.false) in
-    overlap_is c.args.a c.args.b c.args.c c.args.d _ _ _ _ _ c.overlap-of.ensures on c.between-ab-c.ensures c.between-ab-d.ensures c.between-cd-a.ensures c.between-cd-b.ensures
+    overlap_is c.args.a c.args.b c.args.c c.args.d _ _ _ _ _ c.overlap_of.ensures on c.between-ab_c.ensures c.between-ab_d.ensures c.between-cd_a.ensures c.between-cd_b.ensures

@@ -6,22 +6,22 @@ use Rattle.decimetre.specs.Numbers.{value, negated, is_zero, not_zero}
 use Rattle.decimetre.proofs.Products.{num1_is, num2_is}
 use Rattle.decimetre.specs.Propers.{at_proper}
 use Rattle.decimetre.proofs.segments_intersection.segments_intersection2d.Goals as goal
-use Rattle.decimetre.proofs.segments_intersection.segments_intersection2d.Goals.{After-denom-of-denom}
+use Rattle.decimetre.proofs.segments_intersection.segments_intersection2d.Goals.{After-denom_of-denom}
 
-near : (s : After-denom-of-denom) → near4 s.args.a s.args.b s.args.c s.args.d ≡ true
-near s = sym s.four-near.ensures.value ∙ s.if-not-four-near.false
+near : (s : After-denom_of-denom) → near4 s.args.a s.args.b s.args.c s.args.d ≡ true
+near s = sym s.four_near.ensures.value ∙ s.if-not-four_near.false
 
-pub denom-of-denom-requires : goal.denom-of-denom-requires
-denom-of-denom-requires c = let n = c.four-near.ensures.told c.if-not-four-near.false in (n.0, (n.1, (n.2, n.3)))
+pub denom_of-denom-requires : goal.denom_of-denom-requires
+denom_of-denom-requires c = let n = c.four_near.ensures.told c.if-not-four_near.false in (n.0, (n.1, (n.2, n.3)))
 
-pub parallel-intersection-requires : goal.parallel-intersection-requires
-parallel-intersection-requires c = let n = c.four-near.ensures.told c.if-not-four-near.false in (n.0, (n.1, (n.2, n.3)))
+pub parallel_intersection-requires : goal.parallel_intersection-requires
+parallel_intersection-requires c = let n = c.four_near.ensures.told c.if-not-four_near.false in (n.0, (n.1, (n.2, n.3)))
 
-pub num-of-requires : goal.num-of-requires
-num-of-requires c = let n = c.four-near.ensures.told c.if-not-four-near.false in (n.0, (n.2, n.3))
+pub num_of-requires : goal.num_of-requires
+num_of-requires c = let n = c.four_near.ensures.told c.if-not-four_near.false in (n.0, (n.2, n.3))
 
-pub num-of-requires-2 : goal.num-of-requires-2
-num-of-requires-2 c = let n = c.four-near.ensures.told c.if-not-four-near.false in (n.0, (n.1, n.2))
+pub num_of-requires-2 : goal.num_of-requires-2
+num_of-requires-2 c = let n = c.four_near.ensures.told c.if-not-four_near.false in (n.0, (n.1, n.2))
 
 pub returns-then-denom-eq0 : goal.returns-then-denom-eq0
 returns-then-denom-eq0 s =
@@ -29,8 +29,8 @@ returns-then-denom-eq0 s =
     let b = s.args.b in
     let c = s.args.c in
     let d = s.args.d in
-    let below = value s.denom-of-denom.result s.denom-of-denom.ensures.bound s.denom-of-denom.ensures.value (lit≤ tt) in
-    let e : s.parallel-intersection.result ≡ meet_at a b c d = s.parallel-intersection.ensures ∙ parallel_is a b c d (near (goal.at.returns-then-denom-eq0 s).After-denom-of-denom) (is_zero s.denom-of-denom.result below s.if-denom-eq0.true) in
+    let below = value s.denom_of-denom.result s.denom_of-denom.ensures.bound s.denom_of-denom.ensures.value (lit≤ tt) in
+    let e : s.parallel_intersection.result ≡ meet_at a b c d = s.parallel_intersection.ensures ∙ parallel_is a b c d (near (goal.at.returns-then-denom-eq0 s).After-denom_of-denom) (is_zero s.denom_of-denom.result below s.if-denom-eq0.true) in
     record { value = e; proper = subst ProperMeet (sym e) (at_proper a b c d) }
 
 pub returns : goal.returns
@@ -40,9 +40,9 @@ returns s =
     let c = s.args.c in
     let d = s.args.d in
     let num1 = value s.num_of_contract.result s.num_of_contract.ensures.bound (s.num_of_contract.ensures.value ∙ num1_is a b c d) (lit≤ tt) in
-    let num2 = negated (value s.num-of-2.result s.num-of-2.ensures.bound s.num-of-2.ensures.value (lit≤ tt)) (lit≤ tt) in
-    let below = value s.denom-of-denom.result s.denom-of-denom.ensures.bound s.denom-of-denom.ensures.value (lit≤ tt) in
-    let first = s.share-of-s.ensures ∙ ap₂ share num1.is below.is in
-    let second = s.share-of-t.ensures ∙ ap₂ share (num2.is ∙ num2_is a b c d) below.is in
-    let e : s.crossing-of.result ≡ meet_at a b c d = s.crossing-of.ensures ∙ crossing_is a b c d (near (goal.at.returns s).After-denom-of-denom) _ _ (not_zero s.denom-of-denom.ensures.value s.if-denom-eq0.false) first second in
+    let num2 = negated (value s.num_of-2.result s.num_of-2.ensures.bound s.num_of-2.ensures.value (lit≤ tt)) (lit≤ tt) in
+    let below = value s.denom_of-denom.result s.denom_of-denom.ensures.bound s.denom_of-denom.ensures.value (lit≤ tt) in
+    let first = s.share_of-s.ensures ∙ ap₂ share num1.is below.is in
+    let second = s.share_of-t.ensures ∙ ap₂ share (num2.is ∙ num2_is a b c d) below.is in
+    let e : s.crossing_of.result ≡ meet_at a b c d = s.crossing_of.ensures ∙ crossing_is a b c d (near (goal.at.returns s).After-denom_of-denom) _ _ (not_zero s.denom_of-denom.ensures.value s.if-denom-eq0.false) first second in
     record { value = e; proper = subst ProperMeet (sym e) (at_proper a b c d) }

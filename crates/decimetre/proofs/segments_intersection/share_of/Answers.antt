@@ -15,20 +15,20 @@ overflow-sub-num c = negated_fits (given c.args.num c.requires.0) (lit≤ tt)
 pub overflow-sub-denom : goal.overflow-sub-denom
 overflow-sub-denom c = negated_fits (given c.args.denom c.requires.1) (lit≤ tt)
 
-pub portion-of-requires : goal.portion-of-requires
-portion-of-requires c = (bound_of (negated (given c.args.num c.requires.0) (lit≤ tt)), bound_of (negated (given c.args.denom c.requires.1) (lit≤ tt)))
+pub portion_of-requires : goal.portion_of-requires
+portion_of-requires c = (bound_of (negated (given c.args.num c.requires.0) (lit≤ tt)), bound_of (negated (given c.args.denom c.requires.1) (lit≤ tt)))
 
-pub portion-of-requires-else-denom-lt0 : goal.portion-of-requires-else-denom-lt0
-portion-of-requires-else-denom-lt0 c = (bound_of (given c.args.num c.requires.0), bound_of (given c.args.denom c.requires.1))
+pub portion_of-requires-else-denom-lt0 : goal.portion_of-requires-else-denom-lt0
+portion_of-requires-else-denom-lt0 c = (bound_of (given c.args.num c.requires.0), bound_of (given c.args.denom c.requires.1))
 
 pub returns-then-denom-lt0 : goal.returns-then-denom-lt0
 returns-then-denom-lt0 c =
     let num = given c.args.num c.requires.0 in
     let denom = given c.args.denom c.requires.1 in
-    c.portion-of.ensures ∙ ap₂ portion (negated num (lit≤ tt)).is (negated denom (lit≤ tt)).is ∙ sym (cond-true _ _ _ (sym (ap (λ z. lt_z z (pos 0)) denom.is) ∙ c.if-denom-lt0.true))
+    c.portion_of.ensures ∙ ap₂ portion (negated num (lit≤ tt)).is (negated denom (lit≤ tt)).is ∙ sym (cond-true _ _ _ (sym (ap (λ z. lt_z z (pos 0)) denom.is) ∙ c.if-denom-lt0.true))
 
 pub returns-else-denom-lt0 : goal.returns-else-denom-lt0
 returns-else-denom-lt0 c =
     let num = given c.args.num c.requires.0 in
     let denom = given c.args.denom c.requires.1 in
-    c.portion-of-else-denom-lt0.ensures ∙ ap₂ portion num.is denom.is ∙ sym (cond-false _ _ _ (sym (ap (λ z. lt_z z (pos 0)) denom.is) ∙ c.if-denom-lt0.false))
+    c.portion_of-else-denom-lt0.ensures ∙ ap₂ portion num.is denom.is ∙ sym (cond-false _ _ _ (sym (ap (λ z. lt_z z (pos 0)) denom.is) ∙ c.if-denom-lt0.false))

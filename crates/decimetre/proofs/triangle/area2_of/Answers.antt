@@ -10,11 +10,11 @@ minus-requires c = (c.requires.1.0, c.requires.0)
 pub minus-requires-2 : goal.minus-requires-2
 minus-requires-2 c = (c.requires.1.1, c.requires.0)
 
-pub perp-dot-requires : goal.perp-dot-requires
-perp-dot-requires c = (c.minus.ensures.short, c.minus-2.ensures.short)
+pub perp_dot-requires : goal.perp_dot-requires
+perp_dot-requires c = (c.minus.ensures.short, c.minus-2.ensures.short)
 
 pub returns : goal.returns
 returns c =
-    let e = c.perp-dot.ensures.value ∙ ap₂ perp_dot c.minus.ensures.value c.minus-2.ensures.value ∙ area2_is c.args.a c.args.b c.args.c in
-    let whole = value c.perp-dot.result c.perp-dot.ensures.bound e (lit≤ tt) in
+    let e = c.perp_dot.ensures.value ∙ ap₂ perp_dot c.minus.ensures.value c.minus-2.ensures.value ∙ area2_is c.args.a c.args.b c.args.c in
+    let whole = value c.perp_dot.result c.perp_dot.ensures.bound e (lit≤ tt) in
     record { value = whole.is; bound = bound_of whole }

@@ -12,8 +12,8 @@ use Rattle.job.proofs.outlines.read_outlines.Goals as goal
 pub returns-in-err-check : goal.returns-in-err-check
 returns-in-err-check c =
     let l = lists_of c.in-ok-job.job in
-    let first = c.as-slice-first.result.now in
-    let passes : Passes first = subst Passes (sym c.as-slice-first.ensures) (rings_pass c.args.bytes.now l c.in-ok-job.ensures.split One) in
+    let first = c.as_slice-first.result.now in
+    let passes : Passes first = subst Passes (sym c.as_slice-first.ensures) (rings_pass c.args.bytes.now l c.in-ok-job.ensures.split One) in
     let room : length first ≤ length c.args.store.now.now = omega arith in
     let none = c.check.ensures.answer ∙ not_refused first (length c.args.store.now.now) passes room in
     absurd (never_refused c.check.result c.in-err-check.field-0.0 none c.in-err-check.was)
@@ -23,12 +23,12 @@ returns c =
     let l = lists_of c.in-ok-job.job in
     let split = c.in-ok-job.ensures.split in
     let value = c.in-ok-job.ensures.value in
-    let first = c.as-slice-first.result.now in
-    let second = c.as-slice-second.result.now in
+    let first = c.as_slice-first.result.now in
+    let second = c.as_slice-second.result.now in
     let store = c.args.store.now.now in
     let left = c.check.new.store.now in
-    let passes : Passes first = subst Passes (sym c.as-slice-first.ensures) (rings_pass c.args.bytes.now l split One) in
-    let passes' : Passes second = subst Passes (sym c.as-slice-second.ensures) (rings_pass c.args.bytes.now l split Two) in
+    let passes : Passes first = subst Passes (sym c.as_slice-first.ensures) (rings_pass c.args.bytes.now l split One) in
+    let passes' : Passes second = subst Passes (sym c.as_slice-second.ensures) (rings_pass c.args.bytes.now l split Two) in
     let room : length first ≤ length store = omega arith in
     let none = c.check.ensures.answer ∙ not_refused first (length store) passes room in
     let ok = done c.check.result none in
@@ -40,12 +40,12 @@ returns c =
     let held' = c.check-2.ensures.held ok' in
     let len : length c.check.new.outline.corners.now ≡ length first = corners-length exact first c.check.new.outline.corners.now held in
     let len' : length c.check-2.new.outline.corners.now ≡ length second = corners-length exact second c.check-2.new.outline.corners.now held' in
-    let all : length l.one + length l.two ≤ length store = omega (arith, ap length c.as-slice-first.ensures, ap length c.as-slice-second.ensures) in
+    let all : length l.one + length l.two ≤ length store = omega (arith, ap length c.as_slice-first.ensures, ap length c.as_slice-second.ensures) in
     record {
       answer = none' ∙ sym (all_placed (length store) l all) ∙ ap (placed (length store)) value;
       kept = not_both (is_ok c.check-2.result) ok';
-      first-same = not_both (is_ok c.check-2.result) ok';
-      second-same = not_both (is_ok c.check-2.result) ok';
-      held = λ _. subst (λ r. Outlines r c.check.new.outline.corners.now c.check-2.new.outline.corners.now) value (subst (λ ps. Corners exact ps c.check.new.outline.corners.now) c.as-slice-first.ensures held, subst (λ ps. Corners exact ps c.check-2.new.outline.corners.now) c.as-slice-second.ensures held');
+      first_same = not_both (is_ok c.check-2.result) ok';
+      second_same = not_both (is_ok c.check-2.result) ok';
+      held = λ _. subst (λ r. Outlines r c.check.new.outline.corners.now c.check-2.new.outline.corners.now) value (subst (λ ps. Corners exact ps c.check.new.outline.corners.now) c.as_slice-first.ensures held, subst (λ ps. Corners exact ps c.check-2.new.outline.corners.now) c.as_slice-second.ensures held');
       rest = λ _. c.check-2.ensures.rest ok' ∙ ap (drop (length second)) rest ∙ drop-drop (length second) (length first) store ∙ ap (λ n. drop n store) (ap₂ ◌+◌ (sym len) (sym len'));
     }

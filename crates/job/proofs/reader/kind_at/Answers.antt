@@ -17,7 +17,7 @@ returns-in-18 c = first_kind c.args.at 18 c.args.bytes.now c.if-at-bytes.false c
 pub returns-in-20 : goal.returns-in-20
 returns-in-20 c = first_kind c.args.at 20 c.args.bytes.now c.if-at-bytes.false c.in-20.is
 
-pub returns-in-default : goal.returns-in-default
-returns-in-default c =
+pub returns-in_default : goal.returns-in_default
+returns-in_default c =
     let b = get_or c.args.bytes.now c.args.at 0 in
     strange_kind c.args.at b c.args.bytes.now c.if-at-bytes.false refl (no_kind b (omega arith) (omega arith) (omega arith))

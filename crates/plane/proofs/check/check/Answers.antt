@@ -8,6 +8,6 @@ pub over-requires : goal.over-requires
 over-requires g c =
     let m = g.K.Arithmetic.meaning in
     let raw = c.args.raw.now in
-    let none = sym c.refusal-of.ensures ∙ ap told_of c.in-default.is in
+    let none = sym c.refusal_of.ensures ∙ ap told_of c.in_default.is in
     let laid = c.lay-corners.ensures.laid in
     ((refl, tt), (omega (arith, short_from_checked m raw _ none, corners-length m raw _ laid), corners-admitted m raw _ laid))

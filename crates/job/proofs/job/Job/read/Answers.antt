@@ -38,5 +38,5 @@ loop-ring-preserved c = (
 
 pub returns : goal.returns
 returns c =
-    let v = reads_end _ _ _ (sym (ap Ok c.in-default.is) ∙ c.in-ok-ring.ensures) ∙ c.loop-ring.invariant.1 in
+    let v = reads_end _ _ _ (sym (ap Ok c.in_default.is) ∙ c.in-ok-ring.ensures) ∙ c.loop-ring.invariant.1 in
     record { value = v; split = split_of _ _ c.type-inv.bytes v }

@@ -1,5 +1,5 @@
 -- What an arithmetic means, as one record of functions, and the law on its marks. Assumes nothing.
-use Rattle.std.specs.Prelude.{◌≡◌, Bool, true, ◌⊎◌, Some, None, Option}
+use Rattle.std.specs.Prelude.{◌≡◌, Bool, true, ◌⊎◌, Some, Option}
 use Rattle.plane.specs.declared.answer.Side.{Side}
 use Rattle.plane.specs.declared.answer.End.{End}
 use Rattle.plane.specs.declared.answer.Meet.{Meet}

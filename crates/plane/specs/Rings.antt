@@ -1,5 +1,5 @@
 -- The edges of a ring of corners, and the inside test over the meaning of any arithmetic. Assumes nothing.
-use Rattle.std.specs.Prelude.{ℕ, ◌+◌, ◌%◌, Bool, true, cond, List, [], ◌∷◌, ◌++◌, take, drop, ◌==◌}
+use Rattle.std.specs.Prelude.{ℕ, ◌+◌, ◌%◌, Bool, cond, List, [], ◌∷◌, ◌++◌, take, drop, ◌==◌}
 use Rattle.plane.specs.Meaning.{Meaning}
 
 -- an edge runs from a corner to a corner

@@ -1,4 +1,4 @@
-use Rattle.std.proofs.Common.{◌≡◌, suc, ◌+◌, ◌<◌, ◌≤◌, length, take, sym, ap, ◌∙◌, subst, subst₂, add-one, arith}
+use Rattle.std.proofs.Common.{◌<◌, ◌≤◌, length, take, sym, ◌∙◌, subst₂, add-one, arith}
 use Rattle.std.proofs.lemmas.List.{take_all}
 use Rattle.plane.specs.Outlines.{Corners}
 use Rattle.plane.proofs.Checks.{corners_more, wild_read}

@@ -1,4 +1,4 @@
-use Rattle.std.proofs.Common.{◌≡◌, length, take}
+use Rattle.std.proofs.Common.{take}
 use Rattle.plane.specs.Outlines.{Corners}
 use Rattle.plane.proofs.check.fill.Given as goal
 

@@ -1,5 +1,5 @@
 use Rattle.std.proofs.Common.{◌≡◌, ◌+◌, ◌%◌, ◌≤◌, cond, eqb, length, sym, ap, ◌∙◌, arith}
-use Rattle.plane.specs.Rings.{edges, how_many, passes, inside}
+use Rattle.plane.specs.Rings.{edges, passes, inside}
 use Rattle.plane.proofs.Edges.{edge, edges_read, length-edges, how_many_more, how_many_all}
 use Rattle.plane.proofs.point_in_poly2d.point_in_poly2d.Goals as goal
 use Rattle.plane.proofs.point_in_poly2d.point_in_poly2d.Goals.{then-passed, else-passed}

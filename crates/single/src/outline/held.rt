@@ -15,6 +15,7 @@ impl<'a> Outline<Single> for SingleOutline<'a> {
 }
 
 impl<'a> Over<'a, Single> for SingleOutline<'a> {
+    #[tactic(auto, using(crate::proofs::Outlines::were_admitted))]
     fn over(corners: &'a [Corner]) -> Self {
         SingleOutline { corners }
     }

@@ -1,14 +1,12 @@
 -- What the takers come to over many events. Assumes nothing.
-use Rattle.std.proofs.Common.{◌≡◌, ℕ, zero, suc, ◌+◌, Bool, true, false, cond, ltb, List, [], ◌∷◌, ◌++◌, length, take, Some, None, Option, sym, refl, ap, ◌∙◌, subst, append_assoc, append-nil, arith}
-use Rattle.plane.specs.Refusals.{Told, tells}
+use Rattle.std.proofs.Common.{◌≡◌, ℕ, zero, suc, ◌+◌, Bool, true, false, cond, ltb, List, [], ◌∷◌, ◌++◌, length, take, Some, None, sym, refl, ap, ◌∙◌, subst, append_assoc, append-nil, arith}
 use Rattle.rules.specs.declared.event.Event.{Event}
 use Rattle.rules.specs.declared.event.Event.TheVariants.{Crossing, Corner, Closing}
-use Rattle.rules.specs.declared.totals.Totals.{Totals}
-use Rattle.rules.specs.Counts.{counted, most_counted}
-use Rattle.rules.specs.Rules.{Taken, accepts, refuses, totals}
+use Rattle.rules.specs.Counts.{most_counted}
+use Rattle.rules.specs.Rules.{Taken, accepts, refuses}
 use Rattle.rules.specs.Strings.{Makes, of_none, of_one}
-use Rattle.takers.specs.Takers.{placed, tallied, listed, passed_on, capped}
-use Rattle.takers.specs.Laws.{ListHolds, Adds, TallyAdds, accepted, CapsAt}
+use Rattle.takers.specs.Takers.{placed, listed, passed_on, capped}
+use Rattle.takers.specs.Laws.{ListHolds, TallyAdds, accepted}
 
 -- a rule by a test: what it accepts is the value
 gave : {S : Type 0} (b : Bool) (t u : S) → placed (cond b (Some t) None) ≡ accepts u → u ≡ t

@@ -19,7 +19,7 @@ returns g c =
           let one = told.0 One in
           let two = c.link.ensures.others id one (told.0 Two) in
           chained_more n cs id le w2 c.describe.new.words c.index-records-id.result (omega (arith, c.link.auto.words, c.link-2.auto.words, c.requires.room)) c.requires.marked c.index-records-id.is c.describe.ensures
-          (c.link-2.ensures.others (id + 1) two (c.link.ensures.own_val one)) (c.link-2.ensures.own_val two)
+          (c.link-2.ensures.others (id + 1) two (c.link.ensures.own one)) (c.link-2.ensures.own two)
           (described_kept n cs id w1 w2 (c.link-2.ensures.notes two) (described_kept n cs id ws w1 (c.link.ensures.notes one) told.1));
       rest = ap (λ (l : List ℕ). drop (k + 6) l) c.describe.ensures ∙ described_rest w2 k c.index-records-id.result
           ∙ drop_further w2 w1 (k + 2) (k + 6) (omega arith) c.link-2.ensures.rest ∙ drop_further w1 ws (k + 2) (k + 6) (omega arith) c.link.ensures.rest;

@@ -11,7 +11,7 @@ loop-turn-init g c =
 pub loop-turn-preserved : goal.loop-turn-preserved
 loop-turn-preserved g c = (
   omega arith,
-  walked_more (not_after_at (g.K.Arithmetic.meaning.not_after c.args.arith.now) c.args.records.now c.args.ring) c.args.words.now c.args.base c.args.id c.args.slot c.loop-turn.at c.loop-turn.-turn (get_or c.args.words.now c.loop-turn.at 0)
+  walked_more (not_after_at (g.K.Arithmetic.meaning.not_after c.args.arith.now) c.args.records.now c.args.ring) c.args.words.now c.args.base c.args.id c.args.slot c.loop-turn.at c.loop-turn._turn (get_or c.args.words.now c.loop-turn.at 0)
       (omega arith) refl (omega arith) (sym c.if-not-stands_before.ensures) c.loop-turn.invariant.1,
 )
 
@@ -19,7 +19,7 @@ pub returns-after-loop-turn : goal.returns-after-loop-turn
 returns-after-loop-turn g c =
     record {
       within = omega arith;
-      finds = walked_all (not_after_at (g.K.Arithmetic.meaning.not_after c.args.arith.now) c.args.records.now c.args.ring) c.args.words.now c.args.base c.args.id c.args.slot c.loop-turn.at c.loop-turn.-turn (omega arith) c.loop-turn.invariant.1;
+      finds = walked_all (not_after_at (g.K.Arithmetic.meaning.not_after c.args.arith.now) c.args.records.now c.args.ring) c.args.words.now c.args.base c.args.id c.args.slot c.loop-turn.at c.loop-turn._turn (omega arith) c.loop-turn.invariant.1;
     }
 
 pub returns-then-y-id : goal.returns-then-y-id
@@ -27,7 +27,7 @@ returns-then-y-id g c =
     record {
       within = omega arith;
       finds =
-          walked_stop (not_after_at (g.K.Arithmetic.meaning.not_after c.args.arith.now) c.args.records.now c.args.ring) c.args.words.now c.args.base c.args.id c.args.slot c.loop-turn.at c.loop-turn.-turn
+          walked_stop (not_after_at (g.K.Arithmetic.meaning.not_after c.args.arith.now) c.args.records.now c.args.ring) c.args.words.now c.args.base c.args.id c.args.slot c.loop-turn.at c.loop-turn._turn
           (λ lt.
           elim c.then-y-id.branch [
             | then-y-id-via-then-y-id w ↦ absurd (omega (arith, w.if-y-id.true))

@@ -1,6 +1,6 @@
-use Rattle.std.proofs.Common.{◌≡◌, ◌+◌, ◌≤◌, length, sym, ap, ◌∙◌, ap₂, arith}
+use Rattle.std.proofs.Common.{◌≤◌, length, ◌∙◌, ap₂, arith}
 use Rattle.plane.specs.Outlines.{most_corners}
-use Rattle.plane.specs.Rings.{edges, how_many}
+use Rattle.plane.specs.Rings.{edges}
 use Rattle.plane.proofs.Edges.{edge, edges_read, length-edges, how_many≤}
 use Rattle.chart.specs.Crossings.{crosses, crossings}
 use Rattle.chart.proofs.Pairs.{pairs_next, pairs_all}
@@ -14,8 +14,8 @@ few g c =
     let most = how_many≤ (crosses g.K.Arithmetic.meaning c.args.arith.now (edge c.index-ring-i.result c.index-ring-i-in-loop-i.result)) (edges other) in
     omega (arith, c.cross_edge-found.ensures, most, length-edges other, c.corners-other.ensures.short)
 
-pub overflow-add-found : goal.overflow-add-found
-overflow-add-found g c = omega (arith, few g c, c.loop-i.invariant.0, c.corners-ring.ensures.short)
+pub overflow_add-found : goal.overflow_add-found
+overflow_add-found g c = omega (arith, few g c, c.loop-i.invariant.0, c.corners-ring.ensures.short)
 
 pub loop-i-preserved : goal.loop-i-preserved
 loop-i-preserved g c =

@@ -1,5 +1,5 @@
 use Rattle.std.proofs.Common.{◌≡◌, ◌+◌, ◌≤◌, cond, length, sym, ap, ◌∙◌, arith}
-use Rattle.plane.specs.Rings.{edges, how_many}
+use Rattle.plane.specs.Rings.{edges}
 use Rattle.plane.proofs.Edges.{edge, edges_read, length-edges, how_many_more, how_many_all}
 use Rattle.chart.specs.Crossings.{crosses, is_crossing}
 use Rattle.chart.proofs.Pairs.{not_crossing}
@@ -14,11 +14,11 @@ loop-j-preserved g c =
     let next = edges_read ring c.loop-j.j c.index-ring-j.result c.index-ring-j-in-loop-j.result c.loop-j-test.true c.index-ring-j.is c.index-ring-j-in-loop-j.is in
     let more : c.match-meet.found ≡ c.loop-j.found + cond (test f) 1 0 =
     elim c.match-meet.branch [
-      | in-Crossing w ↦ w.found_is ∙ ap (λ b. c.loop-j.found + cond b 1 0) (ap is_crossing (sym w.in-Crossing.is ∙ c.meet.ensures))
-      | in_default w ↦ omega (arith, w.found_is, ap (λ b. c.loop-j.found + cond b 1 0) (ap is_crossing (sym c.meet.ensures) ∙ not_crossing c.meet.result w.in_default.not-Crossing))
+      | in-Crossing w ↦ w.found-is ∙ ap (λ b. c.loop-j.found + cond b 1 0) (ap is_crossing (sym w.in-Crossing.is ∙ c.meet.ensures))
+      | in_default w ↦ omega (arith, w.found-is, ap (λ b. c.loop-j.found + cond b 1 0) (ap is_crossing (sym c.meet.ensures) ∙ not_crossing c.meet.result w.in_default.not-Crossing))
     ] in
     let low : c.match-meet.found ≤ c.loop-j.j + 1 =
-    elim c.match-meet.branch [ in-Crossing w ↦ omega (arith, w.found_is) | in_default w ↦ omega (arith, w.found_is) ] in
+    elim c.match-meet.branch [ in-Crossing w ↦ omega (arith, w.found-is) | in_default w ↦ omega (arith, w.found-is) ] in
     (low, how_many_more test f (edges ring) c.loop-j.j c.loop-j.found c.match-meet.found next more c.loop-j.invariant.1)
 
 pub returns : goal.returns

@@ -6,7 +6,9 @@ mod look;
 
 use crate::failure::Failure;
 use crate::look::look;
+use std::io;
 use std::io::Read;
+use std::process::ExitCode;
 
 // No job is longer.
 const LONGEST_JOB: u64 = 10_241;
@@ -26,10 +28,13 @@ fn run(rt: &HostRuntime) -> Result<(), Failure> {
     Ok(())
 }
 
-fn main(rt: HostRuntime) -> Result<(), Failure> {
-    let outcome = run(&rt);
-    if let Err(Failure::Refused(refusal)) = &outcome {
-        println!(rt; "refused {} {}", refusal.number(), refusal.place())?;
+fn main(rt: HostRuntime) -> Result<ExitCode, io::Error> {
+    match run(&rt) {
+        Ok(()) => Ok(ExitCode::SUCCESS),
+        Err(Failure::Refused(refusal)) => {
+            println!(rt; "refused {} {}", refusal.number(), refusal.place())?;
+            Ok(ExitCode::FAILURE)
+        }
+        Err(Failure::Io(error)) => Err(error),
     }
-    outcome
 }

@@ -1,5 +1,5 @@
 -- What the exact arithmetic answers, over the whole numbers. Assumes nothing.
-use Rattle.std.specs.Prelude.{ℕ, ◌-◌, ◌*◌, ◌≤◌, Bool, true, false, cond, ◌&&◌, ℤ, pos, ◌+ℤ◌, ◌-ℤ◌, ◌*ℤ◌, neg_ℤ, Some, None, Option, ◌==◌, int_lt, nat_le, unsigned_abs}
+use Rattle.std.specs.Prelude.{ℕ, ◌*◌, ◌≤◌, Bool, false, cond, ◌&&◌, ℤ, pos, ◌+ℤ◌, ◌-ℤ◌, ◌*ℤ◌, neg_ℤ, Some, None, Option, ◌==◌, int_lt, nat_le, unsigned_abs}
 use Rattle.plane.specs.declared.answer.Side.{Side}
 use Rattle.plane.specs.declared.answer.Side.TheVariants.{Left, Right, Level}
 use Rattle.plane.specs.declared.answer.End as plane

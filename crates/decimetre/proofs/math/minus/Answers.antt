@@ -2,11 +2,11 @@ use Rattle.std.proofs.Common.{ap₂, lit≤}
 use Rattle.decimetre.specs.Numbers.{corner_x, corner_y, less, less_fits, bound_of}
 use Rattle.decimetre.proofs.math.minus.Goals as goal
 
-pub overflow-sub-result : goal.overflow-sub-result
-overflow-sub-result c = less_fits (corner_x c.args.b c.requires.0) (corner_x c.args.a c.requires.1) (lit≤ tt)
+pub overflow_sub-result : goal.overflow_sub-result
+overflow_sub-result c = less_fits (corner_x c.args.b c.requires.0) (corner_x c.args.a c.requires.1) (lit≤ tt)
 
-pub overflow-sub-result-2 : goal.overflow-sub-result-2
-overflow-sub-result-2 c = less_fits (corner_y c.args.b c.requires.0) (corner_y c.args.a c.requires.1) (lit≤ tt)
+pub overflow_sub-result-2 : goal.overflow_sub-result-2
+overflow_sub-result-2 c = less_fits (corner_y c.args.b c.requires.0) (corner_y c.args.a c.requires.1) (lit≤ tt)
 
 pub returns : goal.returns
 returns c =

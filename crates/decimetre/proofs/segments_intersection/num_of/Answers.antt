@@ -14,32 +14,32 @@ q s = record { is = s.wide-q.ensures; near = s.requires.1.0 }
 r : (s : After-wide-r) → Wide s.wide-r.result s.args.r
 r s = record { is = s.wide-r.ensures; near = s.requires.1.1 }
 
-pub overflow-sub-result : goal.overflow-sub-result
-overflow-sub-result n = let s = (goal.at.overflow-sub-result n).After-wide-r in rise_fits (r s) (q s)
+pub overflow_sub-result : goal.overflow_sub-result
+overflow_sub-result n = let s = (goal.at.overflow_sub-result n).After-wide-r in rise_fits (r s) (q s)
 
-pub overflow-mul-result : goal.overflow-mul-result
-overflow-mul-result n = let s = (goal.at.overflow-mul-result n).After-wide-r in term_fits (r s) (q s) (p s)
+pub overflow_mul-result : goal.overflow_mul-result
+overflow_mul-result n = let s = (goal.at.overflow_mul-result n).After-wide-r in term_fits (r s) (q s) (p s)
 
-pub overflow-sub-result-2 : goal.overflow-sub-result-2
-overflow-sub-result-2 n = let s = (goal.at.overflow-sub-result-2 n).After-wide-r in rise_fits (p s) (r s)
+pub overflow_sub-result-2 : goal.overflow_sub-result-2
+overflow_sub-result-2 n = let s = (goal.at.overflow_sub-result-2 n).After-wide-r in rise_fits (p s) (r s)
 
-pub overflow-mul-result-2 : goal.overflow-mul-result-2
-overflow-mul-result-2 n = let s = (goal.at.overflow-mul-result-2 n).After-wide-r in term_fits (p s) (r s) (q s)
+pub overflow_mul-result-2 : goal.overflow_mul-result-2
+overflow_mul-result-2 n = let s = (goal.at.overflow_mul-result-2 n).After-wide-r in term_fits (p s) (r s) (q s)
 
-pub overflow-add-result : goal.overflow-add-result
-overflow-add-result n =
-    let s = (goal.at.overflow-add-result n).After-wide-r in
+pub overflow_add-result : goal.overflow_add-result
+overflow_add-result n =
+    let s = (goal.at.overflow_add-result n).After-wide-r in
     plus_fits (term (r s) (q s) (p s)) (term (p s) (r s) (q s)) (lit≤ tt)
 
-pub overflow-sub-result-3 : goal.overflow-sub-result-3
-overflow-sub-result-3 n = let s = (goal.at.overflow-sub-result-3 n).After-wide-r in rise_fits (q s) (p s)
+pub overflow_sub-result-3 : goal.overflow_sub-result-3
+overflow_sub-result-3 n = let s = (goal.at.overflow_sub-result-3 n).After-wide-r in rise_fits (q s) (p s)
 
-pub overflow-mul-result-3 : goal.overflow-mul-result-3
-overflow-mul-result-3 n = let s = (goal.at.overflow-mul-result-3 n).After-wide-r in term_fits (q s) (p s) (r s)
+pub overflow_mul-result-3 : goal.overflow_mul-result-3
+overflow_mul-result-3 n = let s = (goal.at.overflow_mul-result-3 n).After-wide-r in term_fits (q s) (p s) (r s)
 
-pub overflow-add-result-2 : goal.overflow-add-result-2
-overflow-add-result-2 n =
-    let s = (goal.at.overflow-add-result-2 n).After-wide-r in
+pub overflow_add-result-2 : goal.overflow_add-result-2
+overflow_add-result-2 n =
+    let s = (goal.at.overflow_add-result-2 n).After-wide-r in
     plus_fits (plus (term (r s) (q s) (p s)) (term (p s) (r s) (q s)) (lit≤ tt)) (term (q s) (p s) (r s)) (lit≤ tt)
 
 pub returns : goal.returns

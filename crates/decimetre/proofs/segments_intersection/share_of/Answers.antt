@@ -9,11 +9,11 @@ use Rattle.decimetre.proofs.segments_intersection.share_of.Goals as goal
 given : (z : ℤ) → nat_abs z ≤ 2 ^ 31 → Reads (2 ^ 31) (to_z w64 (of_z w64 z)) z
 given z h = value z h refl (lit≤ tt)
 
-pub overflow-sub-num : goal.overflow-sub-num
-overflow-sub-num c = negated_fits (given c.args.num c.requires.0) (lit≤ tt)
+pub overflow_sub-num : goal.overflow_sub-num
+overflow_sub-num c = negated_fits (given c.args.num c.requires.0) (lit≤ tt)
 
-pub overflow-sub-denom : goal.overflow-sub-denom
-overflow-sub-denom c = negated_fits (given c.args.denom c.requires.1) (lit≤ tt)
+pub overflow_sub-denom : goal.overflow_sub-denom
+overflow_sub-denom c = negated_fits (given c.args.denom c.requires.1) (lit≤ tt)
 
 pub portion_of-requires : goal.portion_of-requires
 portion_of-requires c = (bound_of (negated (given c.args.num c.requires.0) (lit≤ tt)), bound_of (negated (given c.args.denom c.requires.1) (lit≤ tt)))

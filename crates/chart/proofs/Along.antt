@@ -69,45 +69,45 @@ insert-ordered goes n x (y ∷ ys) law h b o =
     (λ t. (λ z i. ⊎_elim (λ e. subst (Stands goes y) (sym e) (t, λ _. b.0)) (o.0 z) (insert_in goes x ys z i), insert-ordered goes n x ys law h b.1 o.1))
     (λ f. (insert-front goes n x y ys law h b o f, o))
 
-module _ (goes : ℕ → ℕ → Bool) (Edge-of : ℕ → ℕ) (e : ℕ) where
-  pub along_below : (n : ℕ) → Below n (along goes Edge-of e n)
+module _ (goes : ℕ → ℕ → Bool) (edge_of : ℕ → ℕ) (e : ℕ) where
+  pub along_below : (n : ℕ) → Below n (along goes edge_of e n)
   along_below zero = tt
   along_below (suc n) =
-      let b : Below (suc n) (along goes Edge-of e n) = below_more n (suc n) _ (omega arith) (along_below n) in
-      cond_both (eqb (Edge-of n) e) (insert goes n (along goes Edge-of e n)) (along goes Edge-of e n) (Below (suc n)) (λ _. insert_below goes n (suc n) _ (omega arith) b) (λ _. b)
+      let b : Below (suc n) (along goes edge_of e n) = below_more n (suc n) _ (omega arith) (along_below n) in
+      cond_both (eqb (edge_of n) e) (insert goes n (along goes edge_of e n)) (along goes edge_of e n) (Below (suc n)) (λ _. insert_below goes n (suc n) _ (omega arith) b) (λ _. b)
 
-  pub along-length : (n : ℕ) → length (along goes Edge-of e n) ≤ n
+  pub along-length : (n : ℕ) → length (along goes edge_of e n) ≤ n
   along-length zero = omega arith
   along-length (suc n) =
       let b = along-length n in
-      cond_both (eqb (Edge-of n) e) (insert goes n (along goes Edge-of e n)) (along goes Edge-of e n) (λ l. length l ≤ suc n) (λ _. omega (arith, insert-length goes n (along goes Edge-of e n))) (λ _. omega arith)
+      cond_both (eqb (edge_of n) e) (insert goes n (along goes edge_of e n)) (along goes edge_of e n) (λ l. length l ≤ suc n) (λ _. omega (arith, insert-length goes n (along goes edge_of e n))) (λ _. omega arith)
 
-  pub along_once : (n : ℕ) → Once (along goes Edge-of e n)
+  pub along_once : (n : ℕ) → Once (along goes edge_of e n)
   along_once zero = tt
   along_once (suc n) =
-      cond_both (eqb (Edge-of n) e) (insert goes n (along goes Edge-of e n)) (along goes Edge-of e n) Once
-      (λ _. insert_once goes n _ (λ i. omega (arith, below_in n (along goes Edge-of e n) n (along_below n) i)) (along_once n))
+      cond_both (eqb (edge_of n) e) (insert goes n (along goes edge_of e n)) (along goes edge_of e n) Once
+      (λ _. insert_once goes n _ (λ i. omega (arith, below_in n (along goes edge_of e n) n (along_below n) i)) (along_once n))
       (λ _. along_once n)
 
-  pub along-has : (n x : ℕ) → In x (along goes Edge-of e n) → (x < n) × (Edge-of x ≡ e)
+  pub along-has : (n x : ℕ) → In x (along goes edge_of e n) → (x < n) × (edge_of x ≡ e)
   along-has zero x = λ i. absurd i
   along-has (suc n) x =
-      cond_both (eqb (Edge-of n) e) (insert goes n (along goes Edge-of e n)) (along goes Edge-of e n) (λ l. In x l → (x < suc n) × (Edge-of x ≡ e))
-      (λ t i. ⊎_elim (λ p. (omega arith, ap Edge-of p ∙ eqb-true (Edge-of n) e t)) (λ j. (omega (arith, (along-has n x j).0), (along-has n x j).1)) (insert_in goes n _ x i))
+      cond_both (eqb (edge_of n) e) (insert goes n (along goes edge_of e n)) (along goes edge_of e n) (λ l. In x l → (x < suc n) × (edge_of x ≡ e))
+      (λ t i. ⊎_elim (λ p. (omega arith, ap edge_of p ∙ eqb-true (edge_of n) e t)) (λ j. (omega (arith, (along-has n x j).0), (along-has n x j).1)) (insert_in goes n _ x i))
       (λ _ j. (omega (arith, (along-has n x j).0), (along-has n x j).1))
 
-  pub along_all : (n x : ℕ) → x < n → Edge-of x ≡ e → In x (along goes Edge-of e n)
+  pub along_all : (n x : ℕ) → x < n → edge_of x ≡ e → In x (along goes edge_of e n)
   along_all zero x h p = absurd (omega arith)
   along_all (suc n) x h p =
-      cond_both (eqb (Edge-of n) e) (insert goes n (along goes Edge-of e n)) (along goes Edge-of e n) (In x)
+      cond_both (eqb (edge_of n) e) (insert goes n (along goes edge_of e n)) (along goes edge_of e n) (In x)
       (λ _. in_insert goes n _ x (⊎_elim (λ q. inl q) (λ ne. inr (along_all n x (omega arith) p)) (cases_eq x n)))
-      (λ f. along_all n x (⊎_elim (λ q. absurd (eqb-false (Edge-of n) e f (ap Edge-of (sym q) ∙ p))) (λ ne. omega arith) (cases_eq x n)) p)
+      (λ f. along_all n x (⊎_elim (λ q. absurd (eqb-false (edge_of n) e f (ap edge_of (sym q) ∙ p))) (λ ne. omega arith) (cases_eq x n)) p)
 
-  pub along-ordered : (n m : ℕ) → Lawful goes m → n ≤ m → Ordered goes (along goes Edge-of e n)
+  pub along-ordered : (n m : ℕ) → Lawful goes m → n ≤ m → Ordered goes (along goes edge_of e n)
   along-ordered zero m law h = tt
   along-ordered (suc n) m law h =
-      let o : Ordered goes (along goes Edge-of e n) = along-ordered n m law (omega arith) in
-      cond_both (eqb (Edge-of n) e) (insert goes n (along goes Edge-of e n)) (along goes Edge-of e n) (Ordered goes) (λ _. insert-ordered goes m n _ law h (along_below n) o) (λ _. o)
+      let o : Ordered goes (along goes edge_of e n) = along-ordered n m law (omega arith) in
+      cond_both (eqb (edge_of n) e) (insert goes n (along goes edge_of e n)) (along goes edge_of e n) (Ordered goes) (λ _. insert-ordered goes m n _ law h (along_below n) o) (λ _. o)
 
 insert_same : (goes goes' : ℕ → ℕ → Bool) (x : ℕ) (list : List ℕ) → ((y : ℕ) → In y list → goes y x ≡ goes' y x) → insert goes x list ≡ insert goes' x list
 insert_same goes goes' x [] h = refl

@@ -30,8 +30,8 @@ spot goes base x slot (y ∷ ys) = cond (goes y x) (spot goes base x (base + 6 *
 
 -- the crossings below n on the edge e, in order
 abbrev pub along : (ℕ → ℕ → Bool) → (ℕ → ℕ) → ℕ → ℕ → List ℕ
-along goes Edge-of e zero = []
-along goes Edge-of e (suc n) = cond (Edge-of n == e) (insert goes n (along goes Edge-of e n)) (along goes Edge-of e n)
+along goes edge_of e zero = []
+along goes edge_of e (suc n) = cond (edge_of n == e) (insert goes n (along goes edge_of e n)) (along goes edge_of e n)
 
 -- words in which x is put into its place in the chain from the slot
 abbrev pub Puts : (ℕ → ℕ → Bool) → List ℕ → List ℕ → ℕ → ℕ → ℕ → Type 0

@@ -1,5 +1,5 @@
 -- The pairs of a job that was read pass a check wherever there are places for them. Assumes nothing.
-use Rattle.std.proofs.Common.{◌≡◌, ℕ, ◌+◌, ◌≤◌, Bool, true, false, cond, ltb, List, [], ◌∷◌, map, length, is_some, is_ok, Some, None, Ok, Err, filter, Option, Result, sym, refl, ap, ◌∙◌, subst, arith}
+use Rattle.std.proofs.Common.{◌≡◌, ℕ, ◌+◌, ◌≤◌, Bool, true, false, cond, List, [], ◌∷◌, map, length, is_some, is_ok, Some, None, Ok, Err, filter, Option, Result, sym, refl, subst, arith}
 use Rattle.std.specs.List.{AllByRecursion as All}
 use Rattle.std.proofs.lemmas.Bool.{le-ltb}
 use Rattle.plane.specs.Outlines.{most_corners, wild_from, checked}
@@ -12,7 +12,7 @@ use Rattle.plane.specs.declared.ring.Ring.{Ring}
 use Rattle.plane.specs.declared.ring.Ring.TheVariants.{One, Two}
 use Rattle.job.specs.Format.{Record, Lists, pairs_in}
 use Rattle.job.specs.Outlined.{corners_in, placed}
-use Rattle.job.specs.Laws.{Fine, Good, Split, Front, ended, missing, strange, full, cut, wild, same_ring, of_ring, rings_of}
+use Rattle.job.specs.Laws.{Fine, Split, Front, ended, missing, strange, full, cut, wild, same_ring, of_ring, rings_of}
 
 -- nothing is wild among pairs that are fine
 none_wild : (k : ℕ) (ps : List Pair) → All Fine ps → wild_from exact k ps ≡ None

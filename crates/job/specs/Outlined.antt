@@ -4,7 +4,7 @@ use Rattle.plane.specs.Refusals.{Told, tells}
 use Rattle.plane.specs.Outlines.{Corners}
 use Rattle.decimetre.specs.declared.corner.Corner.{Corner}
 use Rattle.decimetre.specs.Exact.{exact}
-use Rattle.job.specs.Format.{Lists, read_job}
+use Rattle.job.specs.Format.{Lists}
 
 -- how many corners the rings of a job have in all
 abbrev pub corners_in : Lists → ℕ

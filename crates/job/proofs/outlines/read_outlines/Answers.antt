@@ -1,4 +1,4 @@
-use Rattle.std.proofs.Common.{◌≡◌, ℕ, ◌+◌, ◌≤◌, true, false, length, drop, is_ok, sym, ap, ◌∙◌, subst, ap₂, arith}
+use Rattle.std.proofs.Common.{◌≡◌, ◌+◌, ◌≤◌, length, drop, is_ok, sym, ap, ◌∙◌, subst, ap₂, arith}
 use Rattle.std.proofs.lemmas.List.{length-drop, drop-drop}
 use Rattle.plane.specs.Outlines.{Corners}
 use Rattle.plane.proofs.Checks.{corners-length}
@@ -9,20 +9,20 @@ use Rattle.job.specs.Outlined.{placed, Outlines}
 use Rattle.job.proofs.Checked.{Passes, not_refused, rings_pass, done, never_refused, all_placed, not_both}
 use Rattle.job.proofs.outlines.read_outlines.Goals as goal
 
-pub returns-in-err-check : goal.returns-in-err-check
-returns-in-err-check c =
-    let l = lists_of c.in-ok-job.job in
+pub returns-in_err-check : goal.returns-in_err-check
+returns-in_err-check c =
+    let l = lists_of c.in_ok-job.job in
     let first = c.as_slice-first.result.now in
-    let passes : Passes first = subst Passes (sym c.as_slice-first.ensures) (rings_pass c.args.bytes.now l c.in-ok-job.ensures.split One) in
+    let passes : Passes first = subst Passes (sym c.as_slice-first.ensures) (rings_pass c.args.bytes.now l c.in_ok-job.ensures.split One) in
     let room : length first ≤ length c.args.store.now.now = omega arith in
     let none = c.check.ensures.answer ∙ not_refused first (length c.args.store.now.now) passes room in
-    absurd (never_refused c.check.result c.in-err-check.field-0.0 none c.in-err-check.was)
+    absurd (never_refused c.check.result c.in_err-check.field-0.0 none c.in_err-check.was)
 
 pub returns : goal.returns
 returns c =
-    let l = lists_of c.in-ok-job.job in
-    let split = c.in-ok-job.ensures.split in
-    let value = c.in-ok-job.ensures.value in
+    let l = lists_of c.in_ok-job.job in
+    let split = c.in_ok-job.ensures.split in
+    let value = c.in_ok-job.ensures.value in
     let first = c.as_slice-first.result.now in
     let second = c.as_slice-second.result.now in
     let store = c.args.store.now.now in

@@ -1,5 +1,5 @@
 -- What is found in the outlines of a job is what its pairs tell. Assumes nothing.
-use Rattle.std.proofs.Common.{◌≡◌, ℕ, ◌+◌, ◌≤◌, Bool, true, false, cond, List, [], ◌∷◌, map, length, get_or, Some, None, Ok, Err, Option, Result, sym, refl, ap, ◌∙◌, ap₂, arith, w8, Fits}
+use Rattle.std.proofs.Common.{◌≡◌, ℕ, ◌+◌, ◌≤◌, Bool, true, false, cond, List, [], ◌∷◌, map, get_or, Some, None, Ok, Err, Result, sym, refl, ap, ◌∙◌, ap₂, arith, w8, Fits}
 use Rattle.plane.specs.declared.refusal.Refusal.{Refusal}
 use Rattle.plane.specs.Refusals.{Told, told, refused}
 use Rattle.plane.specs.Outlines.{Corners, most_corners}
@@ -7,7 +7,7 @@ use Rattle.decimetre.specs.declared.corner.Pair.{Pair}
 use Rattle.decimetre.specs.declared.corner.Corner.{Corner}
 use Rattle.decimetre.specs.Exact.{exact, admitted, near, corner_of}
 use Rattle.plane.specs.declared.ring.Ring.TheVariants.{One, Two}
-use Rattle.job.specs.Format.{Lists, read_job, and_then, answered}
+use Rattle.job.specs.Format.{Lists, read_job, and_then}
 use Rattle.job.specs.Outlined.{Outlines, placed, corners_in}
 use Rattle.job.proofs.Checked.{rings_pass, all_placed}
 use Rattle.job.proofs.Splits.{split_of}

@@ -1,6 +1,6 @@
 -- What the reading of a job comes to, over all byte strings. Assumes nothing.
 use Rattle.std.specs.Prelude.{◌≡◌, ℕ, ◌<◌, ◌≤◌, Bool, true, false, List, [], ◌∷◌, ◌++◌, map, length, take, is_some, Ok, Err, filter, Result, ◌≢◌}
-use Rattle.std.specs.List.{AllByRecursion as All}
+use Rattle.std.specs.List.{AllByRecursion}
 use Rattle.plane.specs.Refusals.{Told, tells}
 use Rattle.plane.specs.Outlines.{most_corners}
 use Rattle.decimetre.specs.declared.corner.Pair.{Pair}
@@ -32,7 +32,7 @@ Fine p = is_some (admitted p) ≡ true
 
 -- records of which none is refused: each pair is admitted, and there are not too many of a ring
 pub record Good (rs : List Record) : Type 0 where
-  pub fine : All (λ r. Fine r.pair) rs
+  pub fine : AllByRecursion (λ r. Fine r.pair) rs
   pub few : (ring : Ring) → length (of_ring ring rs) ≤ most_corners
 
 -- the answer that the first record of the bytes left decides, at the offset at and with the pairs so far:
@@ -55,7 +55,7 @@ pub record Split (bytes : List ℕ) (answer : Result Lists Told) : Type 0 where
 
 -- every byte string is so split, and what decides is the answer
 abbrev pub EverySplit : Type 0
-EverySplit = (bytes : List ℕ) → All (λ b. b < 256) bytes → Split bytes (read_job bytes)
+EverySplit = (bytes : List ℕ) → AllByRecursion (λ b. b < 256) bytes → Split bytes (read_job bytes)
 
 -- and no other answer is given to what is so split
 abbrev pub SplitDecides : Type 0
@@ -71,7 +71,7 @@ corners ring ps = map (λ p. record { ring = ring; pair = p }) ps
 
 -- so two lists that are written one after the other are read back
 abbrev pub ListsReadBack : Type 0
-ListsReadBack = (l : Lists) (more : List ℕ) → ((ring : Ring) → All Fine (pairs_in ring l)) → ((ring : Ring) → length (pairs_in ring l) ≤ most_corners) → read_job (written (corners One l.one ++ corners Two l.two) ++ kind_byte End ∷ more) ≡ Ok l
+ListsReadBack = (l : Lists) (more : List ℕ) → ((ring : Ring) → AllByRecursion Fine (pairs_in ring l)) → ((ring : Ring) → length (pairs_in ring l) ≤ most_corners) → read_job (written (corners One l.one ++ corners Two l.two) ++ kind_byte End ∷ more) ≡ Ok l
 
 -- bytes that are good records of these pairs, and the end record
 pub record Written (bytes : List ℕ) (l : Lists) : Type 0 where
@@ -83,7 +83,7 @@ pub record Written (bytes : List ℕ) (l : Lists) : Type 0 where
 
 -- nothing else is read without a refusal
 abbrev pub OnlySo : Type 0
-OnlySo = (bytes : List ℕ) (l : Lists) → All (λ b. b < 256) bytes → read_job bytes ≡ Ok l → Written bytes l
+OnlySo = (bytes : List ℕ) (l : Lists) → AllByRecursion (λ b. b < 256) bytes → read_job bytes ≡ Ok l → Written bytes l
 
 -- no job needs more bytes than two rings of the most corners and the end record
 abbrev pub Enough : Type 0

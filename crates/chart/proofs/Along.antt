@@ -62,11 +62,11 @@ insert-front goes n x y ys law h b o f z i = ⊎_elim first later i
         let ly : y < n = omega (arith, b.0) in
         (law.1 x y z h ly lt xy yz, λ t. absurd (both_ways (goes y x) f (law.1 y z x ly lt h yz t)))
 
-pub insert-ordered : (goes : ℕ → ℕ → Bool) (n x : ℕ) (list : List ℕ) → Lawful goes n → x < n → Below x list → Ordered goes list → Ordered goes (insert goes x list)
-insert-ordered goes n x [] law h b o = (λ y i. absurd i, tt)
-insert-ordered goes n x (y ∷ ys) law h b o =
+pub insert_ordered : (goes : ℕ → ℕ → Bool) (n x : ℕ) (list : List ℕ) → Lawful goes n → x < n → Below x list → Ordered goes list → Ordered goes (insert goes x list)
+insert_ordered goes n x [] law h b o = (λ y i. absurd i, tt)
+insert_ordered goes n x (y ∷ ys) law h b o =
     cond_both (goes y x) (y ∷ insert goes x ys) (x ∷ y ∷ ys) (Ordered goes)
-    (λ t. (λ z i. ⊎_elim (λ e. subst (Stands goes y) (sym e) (t, λ _. b.0)) (o.0 z) (insert_in goes x ys z i), insert-ordered goes n x ys law h b.1 o.1))
+    (λ t. (λ z i. ⊎_elim (λ e. subst (Stands goes y) (sym e) (t, λ _. b.0)) (o.0 z) (insert_in goes x ys z i), insert_ordered goes n x ys law h b.1 o.1))
     (λ f. (insert-front goes n x y ys law h b o f, o))
 
 module _ (goes : ℕ → ℕ → Bool) (edge_of : ℕ → ℕ) (e : ℕ) where
@@ -89,12 +89,12 @@ module _ (goes : ℕ → ℕ → Bool) (edge_of : ℕ → ℕ) (e : ℕ) where
       (λ _. insert_once goes n _ (λ i. omega (arith, below_in n (along goes edge_of e n) n (along_below n) i)) (along_once n))
       (λ _. along_once n)
 
-  pub along-has : (n x : ℕ) → In x (along goes edge_of e n) → (x < n) × (edge_of x ≡ e)
-  along-has zero x = λ i. absurd i
-  along-has (suc n) x =
+  pub along_has : (n x : ℕ) → In x (along goes edge_of e n) → (x < n) × (edge_of x ≡ e)
+  along_has zero x = λ i. absurd i
+  along_has (suc n) x =
       cond_both (eqb (edge_of n) e) (insert goes n (along goes edge_of e n)) (along goes edge_of e n) (λ l. In x l → (x < suc n) × (edge_of x ≡ e))
-      (λ t i. ⊎_elim (λ p. (omega arith, ap edge_of p ∙ eqb-true (edge_of n) e t)) (λ j. (omega (arith, (along-has n x j).0), (along-has n x j).1)) (insert_in goes n _ x i))
-      (λ _ j. (omega (arith, (along-has n x j).0), (along-has n x j).1))
+      (λ t i. ⊎_elim (λ p. (omega arith, ap edge_of p ∙ eqb-true (edge_of n) e t)) (λ j. (omega (arith, (along_has n x j).0), (along_has n x j).1)) (insert_in goes n _ x i))
+      (λ _ j. (omega (arith, (along_has n x j).0), (along_has n x j).1))
 
   pub along_all : (n x : ℕ) → x < n → edge_of x ≡ e → In x (along goes edge_of e n)
   along_all zero x h p = absurd (omega arith)
@@ -103,11 +103,11 @@ module _ (goes : ℕ → ℕ → Bool) (edge_of : ℕ → ℕ) (e : ℕ) where
       (λ _. in_insert goes n _ x (⊎_elim (λ q. inl q) (λ ne. inr (along_all n x (omega arith) p)) (cases_eq x n)))
       (λ f. along_all n x (⊎_elim (λ q. absurd (eqb-false (edge_of n) e f (ap edge_of (sym q) ∙ p))) (λ ne. omega arith) (cases_eq x n)) p)
 
-  pub along-ordered : (n m : ℕ) → Lawful goes m → n ≤ m → Ordered goes (along goes edge_of e n)
-  along-ordered zero m law h = tt
-  along-ordered (suc n) m law h =
-      let o : Ordered goes (along goes edge_of e n) = along-ordered n m law (omega arith) in
-      cond_both (eqb (edge_of n) e) (insert goes n (along goes edge_of e n)) (along goes edge_of e n) (Ordered goes) (λ _. insert-ordered goes m n _ law h (along_below n) o) (λ _. o)
+  pub along_ordered : (n m : ℕ) → Lawful goes m → n ≤ m → Ordered goes (along goes edge_of e n)
+  along_ordered zero m law h = tt
+  along_ordered (suc n) m law h =
+      let o : Ordered goes (along goes edge_of e n) = along_ordered n m law (omega arith) in
+      cond_both (eqb (edge_of n) e) (insert goes n (along goes edge_of e n)) (along goes edge_of e n) (Ordered goes) (λ _. insert_ordered goes m n _ law h (along_below n) o) (λ _. o)
 
 insert_same : (goes goes' : ℕ → ℕ → Bool) (x : ℕ) (list : List ℕ) → ((y : ℕ) → In y list → goes y x ≡ goes' y x) → insert goes x list ≡ insert goes' x list
 insert_same goes goes' x [] h = refl

@@ -16,7 +16,7 @@ use Rattle.chart.specs.Crossings.{meeting}
 use Rattle.chart.specs.Order.{Lawful}
 use Rattle.chart.specs.Records.{at, on, leaving_side, records_by, records_at, records_on, records_from, records_of, edge_at, not_after_at}
 use Rattle.chart.specs.Words.{count}
-use Rattle.chart.proofs.Along.{along-has, along_all, along_once, along-ordered}
+use Rattle.chart.proofs.Along.{along_has, along_all, along_once, along_ordered}
 
 all_both : {X : Type 0} (P : X → Type 0) (xs ys : List X) → All P xs → All P ys → All P (xs ++ ys)
 all_both P [] ys a b = b
@@ -52,8 +52,8 @@ module _ {S R C M P : Type 0} (meaning : Meaning S R C M P) (a : S) where
   fine one two = fine_from (length one) (length two) 0 (edges one) (edges two) (omega (arith, length-edges one)) (omega (arith, length-edges two))
 
   -- each crossing lies on an edge that its ring has
-  pub edge-low : (one two : List C) (r : Ring) (x : ℕ) → x < length (records_of meaning a one two) → edge_at (records_of meaning a one two) r x < count r (record { one = length one; two = length two })
-  edge-low one two r x h = go r (at_all (Fine (length one) (length two)) (records_of meaning a one two) x (fine one two) h)
+  pub edge_low : (one two : List C) (r : Ring) (x : ℕ) → x < length (records_of meaning a one two) → edge_at (records_of meaning a one two) r x < count r (record { one = length one; two = length two })
+  edge_low one two r x h = go r (at_all (Fine (length one) (length two)) (records_of meaning a one two) x (fine one two) h)
     where
       go : (r : Ring) → (c : Record M) × (at (records_of meaning a one two) x ≡ Some c) × Fine (length one) (length two) c → edge_at (records_of meaning a one two) r x < count r (record { one = length one; two = length two })
       go One p = subst (λ (o : Option (Record M)). elim o [ Some c ↦ c.one.edge | None ↦ 0 ] < length one) (sym p.1) p.2.0
@@ -94,7 +94,7 @@ module _ {S R C M P : Type 0} (meaning : Meaning S R C M P) (a : S) where
   -- along each edge the crossings are in order
   pub in_order : OrderedMarks meaning a → (one two : List C) → InOrder meaning a one two
   in_order law one two r e =
-      along-ordered (not_after_at (meaning.not_after a) (records_of meaning a one two) r) (edge_at (records_of meaning a one two) r) e (length (records_of meaning a one two)) (length (records_of meaning a one two)) (lawful law one two r) (omega arith)
+      along_ordered (not_after_at (meaning.not_after a) (records_of meaning a one two) r) (edge_at (records_of meaning a one two) r) e (length (records_of meaning a one two)) (length (records_of meaning a one two)) (lawful law one two r) (omega arith)
 
   -- the chart is sound
   pub sound : (one two : List C) → 0 < length one → 0 < length two → Sound (chart_of meaning a one two)
@@ -104,8 +104,8 @@ module _ {S R C M P : Type 0} (meaning : Meaning S R C M P) (a : S) where
       let edge = edge_at (records_of meaning a one two) in
       record {
         some_corner = each;
-        on_its_edge = λ r e x i. along-has (goes r) (edge r) e n x i;
-        all_there = λ r x h. (edge-low one two r x h, along_all (goes r) (edge r) (edge r x) n x h refl);
+        on_its_edge = λ r e x i. along_has (goes r) (edge r) e n x i;
+        all_there = λ r x h. (edge_low one two r x h, along_all (goes r) (edge r) (edge r x) n x h refl);
         there_once = λ r e. along_once (goes r) (edge r) e n;
       }
     where

@@ -105,6 +105,6 @@ pub linked_none : {M : Type 0} (le : M → M → Bool) (corners : Corners) (cs :
 linked_none le corners cs ws none One e h = none (0 + e) (omega arith)
 linked_none le corners cs ws none Two e h = none (corners.one + e) (omega arith)
 
-pub low-base : (ring : Ring) (n : Corners) → base ring n ≤ n.one + n.two + 1
-low-base One n = omega arith
-low-base Two n = omega arith
+pub low_base : (ring : Ring) (n : Corners) → base ring n ≤ n.one + n.two + 1
+low_base One n = omega arith
+low_base Two n = omega arith

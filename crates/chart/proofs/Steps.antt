@@ -4,7 +4,7 @@ use Rattle.std.proofs.lemmas.Bool.{cond_both, eqb-true, eqb-false}
 use Rattle.rules.specs.Lists.{In}
 use Rattle.chart.specs.Chains.{Links, On, insert, along}
 use Rattle.chart.proofs.Writes.{on_in, links_kept, below_apart}
-use Rattle.chart.proofs.Along.{along_below, along-has}
+use Rattle.chart.proofs.Along.{along_below, along_has}
 
 -- two chains with no slot in common
 pub strangers : (base slot : ℕ) (list : List ℕ) (base' slot' : ℕ) (list' : List ℕ) (k : ℕ)
@@ -26,7 +26,7 @@ module _ (goes : ℕ → ℕ → Bool) (edge_of : ℕ → ℕ) (base start n id 
   elsewhere e room there here differs k =
       strangers base (start + e) (along goes edge_of e id) base (start + edge_of id) (along goes edge_of (edge_of id) id) k
       (λ p. differs (omega arith)) (λ z i. omega arith) (λ y i. omega arith)
-      (λ y z i j p. let same : y ≡ z = omega arith in differs (sym (along-has goes edge_of (edge_of id) id z j).1 ∙ (ap edge_of (sym same) ∙ (along-has goes edge_of e id y i).1)))
+      (λ y z i j p. let same : y ≡ z = omega arith in differs (sym (along_has goes edge_of (edge_of id) id z j).1 ∙ (ap edge_of (sym same) ∙ (along_has goes edge_of e id y i).1)))
 
   pub step_own : start + n ≤ base → edge_of id < n
       → ((e : ℕ) → e < n → Links ws base (start + e) (along goes edge_of e id))

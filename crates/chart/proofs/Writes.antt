@@ -50,7 +50,7 @@ put_writes ws base x f lt room =
     let long : f < length one = subst (λ (m : ℕ). f < m) (sym (length-set ws n v)) (omega arith) in (
       get_or-set_same one f x 0 long,
       get_or-set_other one f n x 0 (omega arith) ∙ get_or-set_same ws n v 0 room,
-      λ k no-f no-n. get_or-set_other one f k x 0 no-f ∙ get_or-set_other ws n k v 0 no-n,
+      λ k no_f no_n. get_or-set_other one f k x 0 no_f ∙ get_or-set_other ws n k v 0 no_n,
     )
 
 -- a slot of the rest is apart from the slot before it

@@ -17,9 +17,9 @@ near_from-admitted c (pair, is) = go (near (corner_of pair)) refl is
 admitted_from_near : (c : Corner) → near c ≡ true → Admitted exact c
 admitted_from_near c e = (record { x = c.x; y = c.y }, cond-true (near c) (Some c) None e)
 
-pub every-near : (cs : List Corner) → All (Admitted exact) cs → every near cs ≡ true
-every-near [] h = refl
-every-near (c ∷ cs) h = and_from (near c) (every near cs) (near_from-admitted c h.0) (every-near cs h.1)
+pub every_near : (cs : List Corner) → All (Admitted exact) cs → every near cs ≡ true
+every_near [] h = refl
+every_near (c ∷ cs) h = and_from (near c) (every near cs) (near_from-admitted c h.0) (every_near cs h.1)
 
 pub all_admitted_lem : (cs : List Corner) → every near cs ≡ true → All (Admitted exact) cs
 all_admitted_lem [] e = tt

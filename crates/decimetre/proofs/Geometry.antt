@@ -12,7 +12,7 @@ use Rattle.decimetre.specs.declared.corner.Mark.TheVariants.{Start, End}
 use Rattle.decimetre.specs.Exact.{area2, side_of, side_at, near3, near4, denom, num1, num2, share, crossing, both, between_at, overlap, parallel, meet_of, meet_at, upper_of, lower_of, perp, passed_of, passed_at, cross}
 use Rattle.decimetre.specs.Plane.{doubled_area, SideBySign, AtOnePoint, CrossesAt, SharedCrosses, NotParallel, Climbs, HalfOpen}
 use Rattle.decimetre.proofs.Ratios.{one_place, vanishes, equal_of, above_zero}
-use Rattle.decimetre.proofs.Identities.{area_swept, perp_climbs, perp_falls, denom-cross, one_x, one_y, first_gap, second-gap}
+use Rattle.decimetre.proofs.Identities.{area_swept, perp_climbs, perp_falls, denom-cross, one_x, one_y, first_gap, second_gap}
 use Rattle.decimetre.proofs.Marks.{StandsIf, share_stands, IsMark, share_is, stands_at}
 
 -- of near corners the formula is told
@@ -106,7 +106,7 @@ shared_crosses a b c d near u l v m first second apart one = told (near4 a b c d
     on_first = equal_of _ _ (vanishes (pos m) _ _ _ _ _ _ _ (above_zero second.parted) one.on_x one.on_y (first_gap a b c d (pos u) (pos l) (pos v) (pos m)))
 
     on_second : pos v *ℤ D ≡ pos m *ℤ T
-    on_second = equal_of _ _ (vanishes (pos l) _ _ _ _ _ _ _ (above_zero first.parted) one.on_x one.on_y (second-gap a b c d (pos u) (pos l) (pos v) (pos m)))
+    on_second = equal_of _ _ (vanishes (pos l) _ _ _ _ _ _ _ (above_zero first.parted) one.on_x one.on_y (second_gap a b c d (pos u) (pos l) (pos v) (pos m)))
 
     go : (s t : Option Mark) → StandsIf S D s → StandsIf T D t → IsMark s → IsMark t → CrossesAt u l v m (crossing s t)
     go None t h k i j = i

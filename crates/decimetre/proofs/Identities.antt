@@ -107,6 +107,6 @@ module _ (a b c d : Corner) (u l v m : ℤ) where
   unfolding denom num1
   first_gap = ring (corners a b c d (u ∷ l ∷ v ∷ m ∷ [])) (m' ⊗ (u' ⊗ the_d ⊖ l' ⊗ the_s)) (gap_y ⊗ (dx ⊖ cx) ⊖ gap_x ⊗ (dy ⊖ cy)) refl
 
-  pub second-gap : l *ℤ (v *ℤ denom a b c d -ℤ m *ℤ num2 a b c d) ≡ between_y *ℤ (b.x -ℤ a.x) -ℤ between_x *ℤ (b.y -ℤ a.y)
+  pub second_gap : l *ℤ (v *ℤ denom a b c d -ℤ m *ℤ num2 a b c d) ≡ between_y *ℤ (b.x -ℤ a.x) -ℤ between_x *ℤ (b.y -ℤ a.y)
   unfolding denom num2
-  second-gap = ring (corners a b c d (u ∷ l ∷ v ∷ m ∷ [])) (l' ⊗ (v' ⊗ the_d ⊖ m' ⊗ the_t)) (gap_y ⊗ (bx ⊖ ax) ⊖ gap_x ⊗ (by ⊖ ay)) refl
+  second_gap = ring (corners a b c d (u ∷ l ∷ v ∷ m ∷ [])) (l' ⊗ (v' ⊗ the_d ⊖ m' ⊗ the_t)) (gap_y ⊗ (bx ⊖ ax) ⊖ gap_x ⊗ (by ⊖ ay)) refl

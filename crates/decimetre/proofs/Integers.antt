@@ -33,14 +33,14 @@ pub *ℤ_negℤ : (a b : ℤ) → a *ℤ neg_ℤ b ≡ neg_ℤ (a *ℤ b)
     same_in _ _ (omega (arith, product_is, neg_is))
 
 -- a factor other than 0 cancels
-pub no_zero-product : (k z : ℤ) → (k ≡ pos 0 → ⊥) → k *ℤ z ≡ pos 0 → z ≡ pos 0
-no_zero-product (pos zero) z n e = absurd (n refl)
-no_zero-product (pos (suc k)) (pos z) n e = ap pos (omega (arith, ints))
-no_zero-product (pos (suc k)) (negsuc z) n e = absurd (omega (arith, ints))
-no_zero-product (negsuc k) (pos z) n e = ap pos (omega (arith, ints))
-no_zero-product (negsuc k) (negsuc z) n e = absurd (omega (arith, ints))
+pub no_zero_product : (k z : ℤ) → (k ≡ pos 0 → ⊥) → k *ℤ z ≡ pos 0 → z ≡ pos 0
+no_zero_product (pos zero) z n e = absurd (n refl)
+no_zero_product (pos (suc k)) (pos z) n e = ap pos (omega (arith, ints))
+no_zero_product (pos (suc k)) (negsuc z) n e = absurd (omega (arith, ints))
+no_zero_product (negsuc k) (pos z) n e = ap pos (omega (arith, ints))
+no_zero_product (negsuc k) (negsuc z) n e = absurd (omega (arith, ints))
 
 pub *ℤ_cancel : (k a b : ℤ) → (k ≡ pos 0 → ⊥) → k *ℤ a ≡ k *ℤ b → a ≡ b
 *ℤ_cancel k a b n e =
-    let apart = no_zero-product k (a -ℤ b) n (*ℤ_distrib k a (neg_ℤ b) ∙ ap (λ z. k *ℤ a +ℤ z) (*ℤ_negℤ k b) ∙ omega (arith, ints)) in
+    let apart = no_zero_product k (a -ℤ b) n (*ℤ_distrib k a (neg_ℤ b) ∙ ap (λ z. k *ℤ a +ℤ z) (*ℤ_negℤ k b) ∙ omega (arith, ints)) in
     omega (arith, ints)

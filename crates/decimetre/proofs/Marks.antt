@@ -7,7 +7,7 @@ use Rattle.decimetre.specs.declared.corner.Mark.{Mark}
 use Rattle.decimetre.specs.declared.corner.Mark.TheVariants.{Start, Inside, End}
 use Rattle.decimetre.specs.Exact.{portion, share, upper_of, lower_of}
 use Rattle.decimetre.proofs.Integers.{*ℤ_negℤ}
-use Rattle.decimetre.proofs.Ratios.{third-ratio}
+use Rattle.decimetre.proofs.Ratios.{third_ratio}
 use Rattle.decimetre.proofs.Ring.{var, ◌⊗◌, ⊝◌, ring}
 
 -- the mark m is at u over l
@@ -82,4 +82,4 @@ share_is u l v m n within parted e = go (lt_z l (pos 0)) refl
 
 -- a mark at u over l is at v over n where that is the same ratio
 pub stands_at : (m : Mark) (v n : ℕ) (u l : ℤ) → (l ≡ pos 0 → ⊥) → Stands u l m → pos v *ℤ l ≡ pos n *ℤ u → upper_of m * n ≡ v * lower_of m
-stands_at m v n u l apart h e = ap nat_abs (third-ratio (pos (upper_of m)) (pos (lower_of m)) (pos v) (pos n) u l apart h.ratio e)
+stands_at m v n u l apart h e = ap nat_abs (third_ratio (pos (upper_of m)) (pos (lower_of m)) (pos v) (pos n) u l apart h.ratio e)

@@ -2,7 +2,7 @@
 use Rattle.std.proofs.Common.{◌≡◌, ℕ, ◌<◌, [], ◌∷◌, ℤ, pos, ◌+ℤ◌, ◌-ℤ◌, ◌*ℤ◌, sym, refl, ap, ◌∙◌, ap₂, arith}
 use lib.IntN.{*ℤ_comm}
 use Rattle.std.proofs.lemmas.Int.{ints}
-use Rattle.decimetre.proofs.Integers.{no_zero-product, *ℤ_cancel}
+use Rattle.decimetre.proofs.Integers.{no_zero_product, *ℤ_cancel}
 use Rattle.decimetre.proofs.Ring.{var, num, ◌⊕◌, ◌⊖◌, ◌⊗◌, ring}
 
 -- the place at u / l from p to q, where u / l is S / D, times D and m
@@ -25,8 +25,8 @@ pub one_place : (p q r s u l v m S T D : ℤ) → (D ≡ pos 0 → ⊥) → u *�
 one_place p q r s u l v m S T D n e f one = *ℤ_cancel D _ _ n (same_ratio p q u l m S D e ∙ ap₂ ◌*ℤ◌ (*ℤ_comm l m) one ∙ sym (same_ratio r s v m l T D f))
 
 -- two ratios that agree with a third agree
-pub third-ratio : (u l v m S D : ℤ) → (D ≡ pos 0 → ⊥) → u *ℤ D ≡ S *ℤ l → v *ℤ D ≡ m *ℤ S → u *ℤ m ≡ v *ℤ l
-third-ratio u l v m S D n e f =
+pub third_ratio : (u l v m S D : ℤ) → (D ≡ pos 0 → ⊥) → u *ℤ D ≡ S *ℤ l → v *ℤ D ≡ m *ℤ S → u *ℤ m ≡ v *ℤ l
+third_ratio u l v m S D n e f =
     let env = u ∷ l ∷ v ∷ m ∷ S ∷ D ∷ [] in
     let u' = var 0 in
     let l' = var 1 in
@@ -42,7 +42,7 @@ third-ratio u l v m S D n e f =
 -- where p is q and r is s, what is made of their differences is 0
 pub vanishes : (k w p q r s e f : ℤ) → (k ≡ pos 0 → ⊥) → p ≡ q → r ≡ s → k *ℤ w ≡ (r -ℤ s) *ℤ e -ℤ (p -ℤ q) *ℤ f → w ≡ pos 0
 vanishes k w p q r s e f n h g is =
-    no_zero-product k w n
+    no_zero_product k w n
     (is ∙ ap₂ (λ y z. (y -ℤ s) *ℤ e -ℤ (z -ℤ q) *ℤ f) g h
     ∙ ring (q ∷ s ∷ e ∷ f ∷ []) ((var 1 ⊖ var 1) ⊗ var 2 ⊖ (var 0 ⊖ var 0) ⊗ var 3) (num (pos 0)) refl)
 

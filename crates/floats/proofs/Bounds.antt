@@ -70,11 +70,11 @@ under (fin s m e) (fin t p d) k b h v =
     let r : IsFraction (fin s m e) (pos (m * up e)) (down e) = record { sign = false; size = m * up e; value = (b, refl); is = refl } in
     leb→le (m * up e) n (subst T (le_fraction (fin s m e) (fin t p d) (pos (m * up e)) (pos n) (down e) (down_pos e) r q) h)
 
-pub within-turned : (k : ℕ) (x : Float) → Within k x → Within k (neg x)
+pub within_turned : (k : ℕ) (x : Float) → Within k x → Within k (neg x)
 unfolding neg
-within-turned k nan p = p
-within-turned k (inf s) p = p
-within-turned k (fin s m e) p = p
+within_turned k nan p = p
+within_turned k (inf s) p = p
+within_turned k (fin s m e) p = p
 
 pub within_more : (j k : ℕ) (x : Float) → j ≤ k → Within j x → Within k x
 within_more j k nan h p = p
@@ -88,7 +88,7 @@ plain_round a c k C K h =
 within_round : (s : Bool) (a c k : ℕ) → 0 < c → k ≤ 127 → a ≤ 2 ^ k * c → Within k (round binary32 s a c)
 within_round false a c k C K h = plain_round a c k C K h
 within_round true a c k C K h =
-    subst (Within k) (sym (round_turned binary32 false a c)) (within-turned k (round binary32 false a c) (plain_round a c k C K h))
+    subst (Within k) (sym (round_turned binary32 false a c)) (within_turned k (round binary32 false a c) (plain_round a c k C K h))
 
 -- ---- the operations
 
@@ -110,15 +110,15 @@ sum_bounded (fin s m e) (fin t n d) k K p q =
 
 pub difference_bounded : DifferenceBounded
 unfolding sub
-difference_bounded x y k K p q = sum_bounded x (neg y) k K p (within-turned k y q)
+difference_bounded x y k K p q = sum_bounded x (neg y) k K p (within_turned k y q)
 
-pub product-bounded : ProductBounded
+pub product_bounded : ProductBounded
 unfolding mul
-product-bounded nan y j k K p q = absurd p
-product-bounded (inf s) y j k K p q = absurd p
-product-bounded (fin s m e) nan j k K p q = absurd q
-product-bounded (fin s m e) (inf t) j k K p q = absurd q
-product-bounded (fin s m e) (fin t n d) j k K p q =
+product_bounded nan y j k K p q = absurd p
+product_bounded (inf s) y j k K p q = absurd p
+product_bounded (fin s m e) nan j k K p q = absurd q
+product_bounded (fin s m e) (inf t) j k K p q = absurd q
+product_bounded (fin s m e) (fin t n d) j k K p q =
     within_round (unlike s t) (m * up e * (n * up d)) (down e * down d) (j + k) (mul-pos (down_pos e) (down_pos d)) K
     (le_trans (mul-le-mul p q) (le_of_eq (mul-mul-mul_comm (2 ^ j) (down e) (2 ^ k) (down d) ∙ ap (λ (i : ℕ). i * (down e * down d)) (sym (pow-add 2 j k)))))
 

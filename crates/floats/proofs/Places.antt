@@ -98,17 +98,17 @@ module _ (x y z : Float) (X : T (not (is_nan x))) (Y : T (not (is_nan y))) (Z : 
       let yz : den y * j ≡ den z * k = omega arith in
       let x_short : num x * i < b = omega arith in
       let y_short : num y * j < b = omega arith in
-      let z-short : num z * k < b = omega arith in
+      let z_short : num z * k < b = omega arith in
       record {
         i = place i b x;
         j = place j b y;
         k = place k b z;
         xy = lt_place x y i j b X Y (record { x_short = x_short; y_short = y_short; one = xy; some = J });
         yx = lt_place y x j i b Y X (record { x_short = y_short; y_short = x_short; one = sym xy; some = I });
-        yz = lt_place y z j k b Y Z (record { x_short = y_short; y_short = z-short; one = yz; some = K });
-        zy = lt_place z y k j b Z Y (record { x_short = z-short; y_short = y_short; one = sym yz; some = J });
-        xz = lt_place x z i k b X Z (record { x_short = x_short; y_short = z-short; one = xy ∙ yz; some = K });
-        zx = lt_place z x k i b Z X (record { x_short = z-short; y_short = x_short; one = sym (xy ∙ yz); some = I });
+        yz = lt_place y z j k b Y Z (record { x_short = y_short; y_short = z_short; one = yz; some = K });
+        zy = lt_place z y k j b Z Y (record { x_short = z_short; y_short = y_short; one = sym yz; some = J });
+        xz = lt_place x z i k b X Z (record { x_short = x_short; y_short = z_short; one = xy ∙ yz; some = K });
+        zx = lt_place z x k i b Z X (record { x_short = z_short; y_short = x_short; one = sym (xy ∙ yz); some = I });
       }
 
 pub le_numbers : (x y : Float) → T (not (is_nan x)) → T (not (is_nan y)) → le x y ≡ not (lt y x)

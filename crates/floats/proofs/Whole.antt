@@ -99,6 +99,6 @@ same_product z w h k p q =
     mul_value f (of_int f z) (of_int f w) s t a b 1 1 (zero-lt-suc 0) (zero-lt-suc 0) (float_value f z h) (float_value f w k)
     ∙ float-rounds f (unlike s t) (a * b) (λ _. mul-pos p q) ∙ ap (of_int f) (sym (signed_mul s t a b) ∙ (λ i. by_parts z i *ℤ by_parts w i))
 
-pub minus-nought : MinusNought
+pub minus_nought : MinusNought
 unfolding mul of_int of_bits neg
-minus-nought = refl
+minus_nought = refl

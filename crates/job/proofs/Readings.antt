@@ -63,8 +63,8 @@ module _ (at : ℕ) (l : Lists) (left : List ℕ) where
     pub reads_with : and_then with_corner (λ m. read_from (at + 5) m (drop 5 left)) ≡ read_from at l left
     reads_with = regroup (added at (pairs_in ring l) left) ∙ reads_corner
 
-    pub corner-refused : (t : Told) → Err t ≡ with_corner → Err t ≡ read_from at l left
-    corner-refused t e = ap (λ r. and_then r (λ m. read_from (at + 5) m (drop 5 left))) e ∙ reads_with
+    pub corner_refused : (t : Told) → Err t ≡ with_corner → Err t ≡ read_from at l left
+    corner_refused t e = ap (λ r. and_then r (λ m. read_from (at + 5) m (drop 5 left))) e ∙ reads_with
 
     pub corner_read : (m : Lists) → Ok m ≡ with_corner → read_from (at + 5) m (drop 5 left) ≡ read_from at l left
     corner_read m e = ap (λ r. and_then r (λ m. read_from (at + 5) m (drop 5 left))) e ∙ reads_with

@@ -19,7 +19,7 @@ use Rattle.job.specs.Laws.Front.{ended, missing, strange, full, cut, wild}
 use Rattle.job.proofs.Numbers.{number_back, fine_in_two, in_two, bytes_back}
 use Rattle.job.proofs.Records.{no_kind}
 use Rattle.job.proofs.Adds as adds
-use Rattle.job.proofs.Readings.{reads_refused, reads_end, corner-refused, corner_read}
+use Rattle.job.proofs.Readings.{reads_refused, reads_end, corner_refused, corner_read}
 
 -- a kind is read back from its byte, and a byte from its kind
 kind_back : (at : ℕ) (k : Kind) → Ok k ≡ known at (kind_of (kind_byte k))
@@ -57,7 +57,7 @@ module _ (at : ℕ) (r : Record) (more : List ℕ) where
 -- what the front decides is what is read
 module _ (l : Lists) (at : ℕ) where
   refuses : (ring : Ring) (more : List ℕ) (t : Told) → Err t ≡ added at (pairs_in ring l) (kind_byte (Corner ring) ∷ more) → read_from at l (kind_byte (Corner ring) ∷ more) ≡ Err t
-  refuses ring more t e = sym (corner-refused at l (kind_byte (Corner ring) ∷ more) ring (kind_back at (Corner ring)) t (ap (λ x. and_then x (λ ps. Ok (puts ring ps l))) e))
+  refuses ring more t e = sym (corner_refused at l (kind_byte (Corner ring) ∷ more) ring (kind_back at (Corner ring)) t (ap (λ x. and_then x (λ ps. Ok (puts ring ps l))) e))
 
   pub decided : {left : List ℕ} {answer : Result Lists Told} → Front l at left answer → read_from at l left ≡ answer
   decided (ended more e a) = ap (read_from at l) e ∙ (sym (reads_end at l (kind_byte End ∷ more) refl) ∙ sym a)
@@ -99,9 +99,9 @@ few_in : (rs : List Record) → ((ring : Ring) → length (of_ring ring rs) ≤ 
 few_in rs f One = f One
 few_in rs f Two = f Two
 
-few-out : (rs : List Record) → Few (rings_of rs) → (ring : Ring) → length (of_ring ring rs) ≤ most_corners
-few-out rs f One = f One
-few-out rs f Two = f Two
+few_out : (rs : List Record) → Few (rings_of rs) → (ring : Ring) → length (of_ring ring rs) ≤ most_corners
+few_out rs f One = f One
+few_out rs f Two = f Two
 
 pub split_decides : (bytes : List ℕ) (answer : Result Lists Told) → Split bytes answer → read_job bytes ≡ answer
 split_decides bytes answer s =
@@ -214,7 +214,7 @@ every_split bytes bs =
       records = p.records;
       rest = p.rest;
       whole = p.whole;
-      good = record { fine = p.fine; few = few-out p.records p.few };
+      good = record { fine = p.fine; few = few_out p.records p.few };
       front = subst (λ a. Front (rings_of p.records) a p.rest (read_job bytes)) (zero-add (length (written p.records))) p.front;
     }
 

@@ -36,11 +36,11 @@ module _ {S R C M P : Type 0} (m : Meaning S R C M P) where
   corners_more (r' ∷ rs) (c' ∷ cs) (suc i) r c h k e a inv = (inv.0, corners_more rs cs i r c (omega arith) (omega arith) e a inv.1)
 
   -- corners of pairs are admitted, and as many as the pairs
-  pub corners-admitted : (rs : List R) (cs : List C) → Corners m rs cs → All (Admitted m) cs
-  corners-admitted [] [] h = tt
-  corners-admitted [] (c ∷ cs) h = absurd h
-  corners-admitted (r ∷ rs) [] h = absurd h
-  corners-admitted (r ∷ rs) (c ∷ cs) h = ((r, h.0), corners-admitted rs cs h.1)
+  pub corners_admitted : (rs : List R) (cs : List C) → Corners m rs cs → All (Admitted m) cs
+  corners_admitted [] [] h = tt
+  corners_admitted [] (c ∷ cs) h = absurd h
+  corners_admitted (r ∷ rs) [] h = absurd h
+  corners_admitted (r ∷ rs) (c ∷ cs) h = ((r, h.0), corners_admitted rs cs h.1)
 
   pub corners-length : (rs : List R) (cs : List C) → Corners m rs cs → length cs ≡ length rs
   corners-length [] [] h = refl

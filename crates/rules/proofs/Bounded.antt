@@ -15,7 +15,7 @@ use Rattle.rules.proofs.Calls.{on_step, on_begin, Stops, stops_long, stops_at_en
 use Rattle.rules.proofs.Reached.{reached_traced}
 use Rattle.rules.proofs.Unrepeated.{items}
 use Rattle.rules.proofs.AtEnd.{at_rest}
-use Rattle.rules.proofs.Counting.{few-items}
+use Rattle.rules.proofs.Counting.{few_items}
 
 -- the loop under way has no more events than the walk has items
 under_way-items : (past : List Event) → length (under_way past) ≤ length (items past)
@@ -43,11 +43,11 @@ module _ (c : Chart) (sound : Sound c) where
   -- the items not yet handed over bound the events up to the closing
   closing_comes : (k : ℕ) (s : State) (e : Event) → Traced c s → due c s ≡ Some e → all ≤ length (items s.past) + k → (j : ℕ) × ClosesIn c s j × (j ≤ k + 1)
   closing_comes k s Closing h d f = (suc zero, (Closing, d, inl (refl, refl)), omega arith)
-  closing_comes zero s (Crossing x a b) h d f = absurd (let n = few-items c sound (handed_traced c s (Crossing x a b) h d).trail in omega arith)
+  closing_comes zero s (Crossing x a b) h d f = absurd (let n = few_items c sound (handed_traced c s (Crossing x a b) h d).trail in omega arith)
   closing_comes (suc k) s (Crossing x a b) h d f =
       one_sooner k s (Crossing x a b) d (λ q. let z : ◌≡◌ {A = ℕ} 0 1 = cc in omega arith)
       (closing_comes k (hand_over s (Crossing x a b)) _ (handed_traced c s (Crossing x a b) h d) refl (omega arith))
-  closing_comes zero s (Corner r i) h d f = absurd (let n = few-items c sound (handed_traced c s (Corner r i) h d).trail in omega arith)
+  closing_comes zero s (Corner r i) h d f = absurd (let n = few_items c sound (handed_traced c s (Corner r i) h d).trail in omega arith)
   closing_comes (suc k) s (Corner r i) h d f =
       one_sooner k s (Corner r i) d (λ q. let z : ◌≡◌ {A = ℕ} 0 1 = cc in omega arith)
       (closing_comes k (hand_over s (Corner r i)) _ (handed_traced c s (Corner r i) h d) refl (omega arith))
@@ -58,7 +58,7 @@ module _ (c : Chart) (sound : Sound c) where
       go : (o : Option Event) → due c s ≡ o → (m : ℕ) × Needs c s m × (m ≤ all + 1)
       go None d = absurd (more d)
       go (Some e) d =
-          let n = few-items c sound h.trail in
+          let n = few_items c sound h.trail in
           let u = under_way-items s.past in
           let r = closing_comes (all - length (items s.past)) s e h d (omega arith) in
           (length (under_way s.past) + r.0, (r.0, refl, r.1), omega arith)

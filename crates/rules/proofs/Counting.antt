@@ -66,8 +66,8 @@ module _ (c : Chart) (sound : Sound c) where
   few_corners {past} t = subst (λ n. length (corners_of past) ≤ n) (length-all_corners c)
       (once_fits (corners_of past) (all_corners c) (trail_once_corners c sound t) (λ p i. in_all_corners c p.0 p.1 (known-corner c sound t p.0 p.1 i)))
 
-  pub few-items : {past : List Event} → Trail c past → length (items past) ≤ c.count + c.corners One + c.corners Two
-  few-items {past} t = let h = few_crossings t in let k = few_corners t in let n = count_items past in omega arith
+  pub few_items : {past : List Event} → Trail c past → length (items past) ≤ c.count + c.corners One + c.corners Two
+  few_items {past} t = let h = few_crossings t in let k = few_corners t in let n = count_items past in omega arith
 
   -- every loop but the round of the corners begins with a crossing
   MoreCrossings : List Event → Type 0

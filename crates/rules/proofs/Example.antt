@@ -21,8 +21,8 @@ reached_on c {y = y} {r = r} s i e (past_a_corner d h) = subst (λ p. Reaches c 
 
 -- the star
 
-star-sound : Sound star
-star-sound = sound_by_test star refl refl (λ r e k. get_or-eq_default _ [] k)
+star_sound : Sound star
+star_sound = sound_by_test star refl refl (λ r e k. get_or-eq_default _ [] k)
 
 star_alternates : Alternate star
 star_alternates zero y r h k = ap star.leaving (reached_here star 1 Two refl k)
@@ -35,7 +35,7 @@ star_alternates (suc (suc (suc (suc (suc (suc x)))))) y r h k = absurd (omega ar
 
 star_stands : StarStands
 star_stands = record {
-  sound = star-sound;
+  sound = star_sound;
   alternate = star_alternates;
   answers = refl;
   all_taken = refl;
@@ -61,15 +61,15 @@ reversed_star_stands = record {
 
 -- two squares
 
-squares-alternate : Alternate squares
-squares-alternate zero y r h k = ap squares.leaving (reached_here squares 1 Two refl (reached_on squares One 2 refl k))
-squares-alternate (suc zero) y r h k = ap squares.leaving (reached_here squares 0 One refl (reached_on squares Two 0 refl k))
-squares-alternate (suc (suc x)) y r h k = absurd (omega arith)
+squares_alternate : Alternate squares
+squares_alternate zero y r h k = ap squares.leaving (reached_here squares 1 Two refl (reached_on squares One 2 refl k))
+squares_alternate (suc zero) y r h k = ap squares.leaving (reached_here squares 0 One refl (reached_on squares Two 0 refl k))
+squares_alternate (suc (suc x)) y r h k = absurd (omega arith)
 
 squares_stand : SquaresStand
 squares_stand = record {
   sound = sound_by_test squares refl refl (λ r e k. get_or-eq_default _ [] k);
-  alternate = squares-alternate;
+  alternate = squares_alternate;
   answers = refl;
   ends = refl;
   one_loop = refl;

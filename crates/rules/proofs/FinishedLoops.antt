@@ -10,7 +10,7 @@ use Rattle.rules.proofs.Members.{in_left, in_right, in_either, in_reverse, once_
 use Rattle.rules.proofs.Trails.{Trail}
 use Rattle.rules.proofs.Unrepeated.{trail_once}
 use Rattle.rules.proofs.AtEnd.{at_rest, none_lost}
-use Rattle.rules.proofs.Loops.{closed, loops-paired}
+use Rattle.rules.proofs.Loops.{closed, loops_paired}
 use Rattle.rules.proofs.Rounds.{flat, flat_append, Round, Alike, pairs_off, holding, round_from}
 use Rattle.rules.proofs.TrailRounds.{crossings_parts, Standing}
 
@@ -51,4 +51,4 @@ module _ (c : Chart) (sound : Sound c) (alt : Alternate c) where
   }
 
   pub finished-pair : (s t : State) → Trail c s.past → Trail c t.past → Standing c s.past → Standing c t.past → Finished c s → Finished c t → Paired (loops s) (loops t)
-  finished-pair s t r r' k k' h h' = loops-paired s t (pairs_off c sound alt (reverse (closed s.past)) (reverse (closed t.past)) (finished_alike s t r r' k k' h h'))
+  finished-pair s t r r' k k' h h' = loops_paired s t (pairs_off c sound alt (reverse (closed s.past)) (reverse (closed t.past)) (finished_alike s t r r' k k' h h'))

@@ -22,19 +22,19 @@ forth ls = map reverse (reverse ls)
 forth_cons : (l : List Event) (ls : List (List Event)) → forth (l ∷ ls) ≡ forth ls ++ (reverse l ∷ [])
 forth_cons l ls = ap (map reverse) (reverse-cons l ls) ∙ map-append reverse (reverse ls) (l ∷ [])
 
-turned-past : (e : Event) (es rest : List Event) → reverse (e ∷ es) ++ rest ≡ reverse es ++ (e ∷ rest)
-turned-past e es rest = ap (λ t. t ++ rest) (reverse-cons e es) ∙ append_assoc (reverse es) (e ∷ []) rest
+turned_past : (e : Event) (es rest : List Event) → reverse (e ∷ es) ++ rest ≡ reverse es ++ (e ∷ rest)
+turned_past e es rest = ap (λ t. t ++ rest) (reverse-cons e es) ∙ append_assoc (reverse es) (e ∷ []) rest
 
 gather_on : (past rest : List Event) → gather [] (reverse past ++ rest) ≡ forth (closed past) ++ gather (reverse (under_way past)) rest
 gather_on [] rest = refl
 gather_on (Crossing x a b ∷ es) rest =
-    ap (gather []) (turned-past (Crossing x a b) es rest) ∙ gather_on es (Crossing x a b ∷ rest)
+    ap (gather []) (turned_past (Crossing x a b) es rest) ∙ gather_on es (Crossing x a b ∷ rest)
     ∙ ap (λ t. forth (closed es) ++ gather t rest) (sym (reverse-cons (Crossing x a b) (under_way es)))
 gather_on (Corner r i ∷ es) rest =
-    ap (gather []) (turned-past (Corner r i) es rest) ∙ gather_on es (Corner r i ∷ rest)
+    ap (gather []) (turned_past (Corner r i) es rest) ∙ gather_on es (Corner r i ∷ rest)
     ∙ ap (λ t. forth (closed es) ++ gather t rest) (sym (reverse-cons (Corner r i) (under_way es)))
 gather_on (Closing ∷ es) rest =
-    ap (gather []) (turned-past Closing es rest) ∙ gather_on es (Closing ∷ rest)
+    ap (gather []) (turned_past Closing es rest) ∙ gather_on es (Closing ∷ rest)
     ∙ sym (ap (λ t. t ++ gather [] rest) (forth_cons (under_way es) (closed es)) ∙ append_assoc (forth (closed es)) (reverse (under_way es) ∷ []) (gather [] rest))
 
 pub loops_closed : (s : State) → loops s ≡ map reverse (reverse (closed s.past))
@@ -64,7 +64,7 @@ paired-reverse ls ms (pair {l = l} {m = m} {ls = ls'} b a t p) =
     subst (Paired (reverse l ∷ map reverse ls')) (sym (map-append reverse b (m ∷ a)))
     (pair (map reverse b) (map reverse a) (turned-reverse l m t) (subst (Paired (map reverse ls')) (map-append reverse b a) (paired-reverse ls' (b ++ a) p)))
 
-pub loops-paired : (s t : State) → Paired (reverse (closed s.past)) (reverse (closed t.past)) → Paired (loops s) (loops t)
-loops-paired s t h =
+pub loops_paired : (s t : State) → Paired (reverse (closed s.past)) (reverse (closed t.past)) → Paired (loops s) (loops t)
+loops_paired s t h =
     subst (λ z. Paired z (loops t)) (sym (loops_closed s))
     (subst (Paired (map reverse (reverse (closed s.past)))) (sym (loops_closed t)) (paired-reverse (reverse (closed s.past)) (reverse (closed t.past)) h))

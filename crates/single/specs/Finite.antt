@@ -11,7 +11,7 @@ use Rattle.floats.specs.Numbers.{signed, IsFraction}
 use Rattle.floats.specs.Bounds.{Within}
 use Rattle.floats.proofs.Fractions.{le_fraction}
 use Rattle.floats.proofs.Sums.{neg_fraction}
-use Rattle.floats.proofs.Bounds.{within-turned, within_more, sum_bounded, difference_bounded, product-bounded}
+use Rattle.floats.proofs.Bounds.{within_turned, within_more, sum_bounded, difference_bounded, product_bounded}
 use Rattle.single.specs.declared.corner.Corner.{Corner}
 use Rattle.single.specs.Admitted.{farthest, in_reach, is_admitted}
 use Rattle.single.specs.Meets.{denom_of, num1_of, num2_of}
@@ -82,7 +82,7 @@ admitted_finite c h = let w = admitted_within c h in record { on_x = within_fini
 
 -- a coordinate times a difference of two
 term : (x u v : Float) → Within 59 x → Within 59 u → Within 59 v → Within 119 (x ⊗ (u ⊖ v))
-term x u v p q r = product-bounded x (u ⊖ v) 59 60 (lit≤ tt) p (difference_bounded u v 59 (lit< tt) q r)
+term x u v p q r = product_bounded x (u ⊖ v) 59 60 (lit≤ tt) p (difference_bounded u v 59 (lit< tt) q r)
 
 module _ (a b c : Corner) (A : WithinCorner a) (B : WithinCorner b) (C : WithinCorner c) where
   pub num1_within : Within 121 (num1_of a b c)
@@ -92,7 +92,7 @@ module _ (a b c : Corner) (A : WithinCorner a) (B : WithinCorner b) (C : WithinC
       (within_more 119 120 _ (lit≤ tt) (term _ _ _ C.on_x B.on_y A.on_y))
 
   pub num2_within : Within 121 (num2_of a b c)
-  num2_within = within-turned 121 _ num1_within
+  num2_within = within_turned 121 _ num1_within
 
 pub denom_within : (a b c d : Corner) → WithinCorner a → WithinCorner b → WithinCorner c → WithinCorner d → Within 122 (denom_of a b c d)
 denom_within a b c d A B C D =

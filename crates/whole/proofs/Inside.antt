@@ -6,7 +6,7 @@ use Rattle.single.specs.declared.corner.Corner.{Corner}
 use Rattle.single.specs.Single.{single}
 use Rattle.whole.specs.Spots.{Spot, passed_z}
 use Rattle.whole.specs.Exact.{WholeCorner, WholeRing, ExactInside}
-use Rattle.whole.proofs.Sides.{exact-passed}
+use Rattle.whole.proofs.Sides.{exact_passed}
 
 -- edges between whole corners, in order
 abbrev WholeEdges : List (Edge Corner) → List (Edge Spot) → Type 0
@@ -42,7 +42,7 @@ module _ (s : Single) (p : Corner) (i : Spot) (P : WholeCorner p i) where
   count_whole [] [] w = refl
   count_whole [] (z ∷ zs) w = absurd w
   count_whole (e ∷ es) [] w = absurd w
-  count_whole (e ∷ es) (z ∷ zs) w = λ t. cond (exact-passed p e.from e.to i z.from z.to P w.0.0 w.0.1 t) 1 0 + count_whole es zs w.1 t
+  count_whole (e ∷ es) (z ∷ zs) w = λ t. cond (exact_passed p e.from e.to i z.from z.to P w.0.0 w.0.1 t) 1 0 + count_whole es zs w.1 t
 
-pub exact-inside : ExactInside
-exact-inside s p ps i zs P W = ap (λ (n : ℕ). eqb (n % 2) 1) (count_whole s p i P (edges ps) (edges zs) (edges_whole ps zs W))
+pub exact_inside : ExactInside
+exact_inside s p ps i zs P W = ap (λ (n : ℕ). eqb (n % 2) 1) (count_whole s p i P (edges ps) (edges zs) (edges_whole ps zs W))

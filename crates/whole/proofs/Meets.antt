@@ -96,8 +96,8 @@ or_none : (a b : Bool) → (T a → ⊥) → (T b → ⊥) → T (a || b) → �
 or_none true b f g t = f tt
 or_none false b f g t = g t
 
-pub exact-parallel : ExactParallel
-exact-parallel epsilon e v z p =
+pub exact_parallel : ExactParallel
+exact_parallel epsilon e v z p =
     let w = float_with_sign false v in
     let q = size_whole v z p in
     by_both (is_parallel v epsilon) (eqb (nat_abs z) 0)
@@ -128,12 +128,12 @@ or_apart true q r s = refl
 or_apart false true r s = refl
 or_apart false false r s = refl
 
-pub exact-crossing : ExactCrossing
-exact-crossing epsilon e a b c d i j k l A B C D h =
+pub exact_crossing : ExactCrossing
+exact_crossing epsilon e a b c d i j k l A B C D h =
     let s = num1_of a c d ⊘ denom_of a b c d in
     let t = num2_of a b c ⊘ denom_of a b c d in
     let flat : is_parallel (denom_of a b c d) epsilon ≡ false =
-    exact-parallel epsilon e _ _ (denom-near a b c d i j k l A B C D).whole ∙ ne_eqb (nat_abs (denom_z i j k l)) 0 (λ z. omega (arith, h, z)) in
+    exact_parallel epsilon e _ _ (denom-near a b c d i j k l A B C D).whole ∙ ne_eqb (nat_abs (denom_z i j k l)) 0 (λ z. omega (arith, h, z)) in
     ap (λ (f : Bool). is_apart (cond f (parallel_of a b c d epsilon) (crossing_of s t))) flat
     ∙ apart (is_out s t) (classified s) (classified t)
     ∙ or_apart (lt s nought) (lt unit s) (lt t nought) (lt unit t)

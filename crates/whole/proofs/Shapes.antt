@@ -14,8 +14,8 @@ use Rattle.single.specs.Triangle.{orientation_of}
 use Rattle.single.specs.Meets.{denom_of, num1_of, num2_of, is_level, is_out, classified, crossing_of, both, overlap_of, parallel_of, between_of}
 use Rattle.whole.specs.Spots.{Spot, area_z, side_z, Place, Nowhere, AtStart, AtEnd, Within, place_z, Shape, Separate, Crosses, Overlaps, denom_z, num1_z, num2_z, is_there, if_both, overlap_z, crossing_z, parallel_z}
 use Rattle.whole.specs.Exact.{WholeCorner, Slight, place_of, found_at, shape_of, ExactMeet}
-use Rattle.whole.proofs.Sides.{exact-side}
-use Rattle.whole.proofs.Meets.{denom-near, exact-parallel, s_placed, t_placed, or_apart}
+use Rattle.whole.proofs.Sides.{exact_side}
+use Rattle.whole.proofs.Meets.{denom-near, exact_parallel, s_placed, t_placed, or_apart}
 use Rattle.whole.proofs.Between.{mark_place, exact_between}
 
 shape_cond : (b : Bool) (m n : Meet Mark) → shape_of (cond b m n) ≡ cond b (shape_of m) (shape_of n)
@@ -48,7 +48,7 @@ parallel_shape : (epsilon : Float) → Slight epsilon → (a b c d : Corner) (i 
     → shape_of (parallel_of a b c d epsilon) ≡ parallel_z i j k l
 parallel_shape epsilon e a b c d i j k l A B C D =
     shape_cond (is_level (orientation_of a b c epsilon)) (overlap_of (between_of a b c) (between_of a b d) (between_of c d a) (between_of c d b)) Apart
-    ∙ (λ t. cond (is_level (exact-side epsilon e a b c i j k A B C t)) (overlap_shape (between_of a b c) (between_of a b d) (between_of c d a) (between_of c d b) t) Separate)
+    ∙ (λ t. cond (is_level (exact_side epsilon e a b c i j k A B C t)) (overlap_shape (between_of a b c) (between_of a b d) (between_of c d a) (between_of c d b) t) Separate)
     ∙ ap (λ (s : Shape). cond (is_level (side_z (area_z i j k))) s Separate)
     (λ t. overlap_z (exact_between a b c i j k A B C t) (exact_between a b d i j l A B D t) (exact_between c d a k l i C D A t) (exact_between c d b k l j C D B t))
 
@@ -81,12 +81,12 @@ either false p p' q q' f g = g refl
 positive : (m : ℕ) → eqb m 0 ≡ false → 0 < m
 positive m e = grind (arith, nat_tests)
 
-pub exact-meet : ExactMeet
-exact-meet epsilon e a b c d i j k l A B C D =
+pub exact_meet : ExactMeet
+exact_meet epsilon e a b c d i j k l A B C D =
     let w = denom_z i j k l in
     let s = num1_of a c d ⊘ denom_of a b c d in
     let t = num2_of a b c ⊘ denom_of a b c d in
-    ap (λ (z : Bool). shape_of (cond z (parallel_of a b c d epsilon) (crossing_of s t))) (exact-parallel epsilon e (denom_of a b c d) w (denom-near a b c d i j k l A B C D).whole)
+    ap (λ (z : Bool). shape_of (cond z (parallel_of a b c d epsilon) (crossing_of s t))) (exact_parallel epsilon e (denom_of a b c d) w (denom-near a b c d i j k l A B C D).whole)
     ∙ shape_cond (eqb (nat_abs w) 0) (parallel_of a b c d epsilon) (crossing_of s t)
     ∙ either (eqb (nat_abs w) 0) _ _ _ _ (parallel_shape epsilon e a b c d i j k l A B C D)
     (λ z. let h = positive (nat_abs w) z in crossing_shape s t (num1_z i k l) (num2_z i j k) w (s_placed a b c d i j k l A B C D h) (t_placed a b c d i j k l A B C D h))

@@ -77,11 +77,11 @@ pub walk_slight : WalkSlight
 unfolding le lt of_bits
 walk_slight = (tt, tt)
 
-pub exact-side : ExactSide
-exact-side epsilon e a b c i j k A B C = side_slight epsilon e.0 e.1 _ (area_z i j k) (perp_whole _ _ _ _ (gap a b i j A B) (gap a c i k A C))
+pub exact_side : ExactSide
+exact_side epsilon e a b c i j k A B C = side_slight epsilon e.0 e.1 _ (area_z i j k) (perp_whole _ _ _ _ (gap a b i j A B) (gap a c i k A C))
 
-pub exact-turn : ExactTurn
-exact-turn epsilon e a b c d i j k l A B C D =
+pub exact_turn : ExactTurn
+exact_turn epsilon e a b c d i j k l A B C D =
     side_slight epsilon e.0 e.1 _ _ (perp_whole _ _ _ _ (from_origin _ _ (gap a b i j A B)) (from_origin _ _ (gap c d k l C D)))
     ∙ (λ t. side_z (perp_z (same (minus_z j i) t) (same (minus_z l k) t)))
   where
@@ -93,11 +93,11 @@ exact-turn epsilon e a b c d i j k l A B C D =
     same : (z : Spot) → ◌≡◌ {A = Spot} (record { x = z.x -ℤ pos 0; y = z.y -ℤ pos 0 }) z
     same z = λ t. record { x = +ℤ_idr z.x t; y = +ℤ_idr z.y t }
 
-pub exact-against : ExactAgainst
-exact-against a b c d i j k l A B C D = (compared _ nought _ (pos 0) (dot_whole _ _ _ _ (gap a b i j A B) (gap c d k l C D)) nought_whole).below
+pub exact_against : ExactAgainst
+exact_against a b c d i j k l A B C D = (compared _ nought _ (pos 0) (dot_whole _ _ _ _ (gap a b i j A B) (gap c d k l C D)) nought_whole).below
 
-pub exact-passed : ExactPassed
-exact-passed p a b i j k P A B =
+pub exact_passed : ExactPassed
+exact_passed p a b i j k P A B =
     let u = gap a p j i A P in
     let w = perp_whole _ _ _ _ u (gap a b j k A B) in
     let from : le nought (minus p a).y ≡ le_z j.y i.y = (compared nought _ (pos 0) _ nought_whole u.on_y.whole).up_to ∙ from_nought i.y j.y in

@@ -12,5 +12,5 @@ returns c =
       compared = whole.compared;
       same_difference = whole.same_difference;
       same_product = whole.same_product;
-      minus_nought = whole.minus-nought;
+      minus_nought = whole.minus_nought;
     }

@@ -3,7 +3,7 @@ use Rattle.chart.specs.declared.record.Spot.{Spot}
 use Rattle.chart.specs.Records.{edge_at}
 use Rattle.chart.proofs.Filling.{drop_further}
 use Rattle.chart.proofs.Reading.{edge_read_lem}
-use Rattle.chart.proofs.Ringed.{linked_own, linked_other, linked_rest, room, low-base}
+use Rattle.chart.proofs.Ringed.{linked_own, linked_other, linked_rest, room, low_base}
 use Rattle.chart.proofs.chain.link.Goals as goal
 
 pub place-requires : goal.place-requires
@@ -12,7 +12,7 @@ place-requires g c =
     let ring = c.args.ring in
     let edge : c.spot.result.now.edge ≡ edge_at cs ring c.args.id = ap (λ (s : Spot g.row.K-Mark.Denot). s.edge) c.spot.ensures ∙ edge_read_lem cs ring c.args.id c.index-records-id.result c.requires.marked c.index-records-id.is in
     record {
-      room = omega (arith, c.base.ensures, low-base ring c.args.corners, c.requires.room);
+      room = omega (arith, c.base.ensures, low_base ring c.args.corners, c.requires.room);
       first = omega (arith, c.base.ensures, c.start.ensures, edge, c.requires.edge, room ring c.args.corners);
       marked = c.requires.marked;
     }
@@ -29,5 +29,5 @@ returns g c =
       own = linked_own le c.args.corners cs ring c.args.id ws c.place.new.words c.base.result slot c.base.ensures (omega (arith, c.start.ensures, edge)) c.requires.edge c.place.ensures.puts c.place.ensures.keeps;
       others = λ n. linked_other le c.args.corners cs ring c.args.id ws c.place.new.words c.base.result slot c.base.ensures (omega (arith, c.start.ensures, edge)) n c.requires.edge c.place.ensures.keeps;
       notes = linked_rest le c.args.corners cs ring c.args.id ws c.place.new.words c.base.result slot c.base.ensures (omega (arith, c.start.ensures, edge)) c.requires.edge c.place.ensures.keeps;
-      rest = drop_further c.place.new.words ws (c.base.result + 6 * c.args.id + 1) _ (omega (arith, c.base.ensures, low-base ring c.args.corners)) c.place.ensures.rest;
+      rest = drop_further c.place.new.words ws (c.base.result + 6 * c.args.id + 1) _ (omega (arith, c.base.ensures, low_base ring c.args.corners)) c.place.ensures.rest;
     }

@@ -3,7 +3,7 @@ use Rattle.chart.specs.declared.record.Record.{Record}
 use Rattle.chart.specs.Charts.{inner_where}
 use Rattle.chart.specs.Records.{records_of, edge_at}
 use Rattle.chart.specs.Words.{Chained, count}
-use Rattle.chart.proofs.Charted.{edge-low}
+use Rattle.chart.proofs.Charted.{edge_low}
 use Rattle.chart.proofs.Filling.{drop_further}
 use Rattle.chart.proofs.Telling.{edge-front, told-front}
 use Rattle.chart.proofs.intersections.tabulate.Goals as goal
@@ -25,7 +25,7 @@ chain_all-requires g c =
       edge = λ ring x h.
           let lt : x < length rs = omega (arith, c.requires.all) in
           subst (λ (cs : List (Record g.row.K-Mark.Denot)). edge_at cs ring x < count ring (record { one = length one; two = length two })) (sym c.fill.ensures)
-          (subst (λ (v : ℕ). v < count ring (record { one = length one; two = length two })) (sym (edge-front rs more ring x lt)) (edge-low m a one two ring x lt));
+          (subst (λ (v : ℕ). v < count ring (record { one = length one; two = length two })) (sym (edge-front rs more ring x lt)) (edge_low m a one two ring x lt));
     }
 
 pub returns : goal.returns

@@ -1,6 +1,6 @@
 use Rattle.std.proofs.Common.{sym, refl, ap, ◌∙◌, arith}
 use Rattle.plane.specs.Refusals.{told_of}
-use Rattle.plane.proofs.Checks.{corners-admitted, corners-length, short_from_checked}
+use Rattle.plane.proofs.Checks.{corners_admitted, corners-length, short_from_checked}
 use Rattle.plane.proofs.check.check.Goals as goal
 
 pub over-requires : goal.over-requires
@@ -9,4 +9,4 @@ over-requires g c =
     let raw = c.args.raw.now in
     let none = sym c.refusal_of.ensures ∙ ap told_of c.in_default.is in
     let laid = c.lay-corners.ensures.laid in
-    λ k. ((refl, tt), (omega (arith, short_from_checked m raw _ none, corners-length m raw _ laid), corners-admitted m raw _ laid))
+    λ k. ((refl, tt), (omega (arith, short_from_checked m raw _ none, corners-length m raw _ laid), corners_admitted m raw _ laid))

@@ -4,7 +4,7 @@ use Rattle.std.proofs.lemmas.List.{length-drop, drop-drop}
 use Rattle.std.proofs.lemmas.Result.{err_from_is_err_and}
 use Rattle.job.specs.Format.{read_from}
 use Rattle.job.specs.Held.{lists_of}
-use Rattle.job.proofs.Readings.{reads_refused, reads_end, corner-refused, corner_read, corner_long}
+use Rattle.job.proofs.Readings.{reads_refused, reads_end, corner_refused, corner_read, corner_long}
 use Rattle.job.proofs.Splits.{split_of}
 use Rattle.job.proofs.job.Job.read.Goals as goal
 
@@ -17,7 +17,7 @@ returns-in_err-ring c =
 pub returns-in_err-add : goal.returns-in_err-add
 returns-in_err-add c =
     let p = err_from_is_err_and c.from_residual-in_err-add.result c.from_residual-in_err-add.ensures.1 in
-    let v = corner-refused _ _ _ _ (sym (ap Ok c.in-Corner.is) ∙ c.in_ok-ring.ensures) _ c.in_err-add.ensures.value ∙ c.loop-ring.invariant.1 in
+    let v = corner_refused _ _ _ _ (sym (ap Ok c.in-Corner.is) ∙ c.in_ok-ring.ensures) _ c.in_err-add.ensures.value ∙ c.loop-ring.invariant.1 in
     rw (p.1, p.2) (record { value = v; split = split_of _ _ c.type_inv.bytes v })
 
 -- a corner's record is as long as the step past it

@@ -1,4 +1,5 @@
 pub mod Refusals
 pub mod Meaning
+pub mod Marks
 pub mod Outlines
 pub mod Rings

@@ -50,8 +50,3 @@ told e = tells (number_of e) (place_of e)
 abbrev pub refused : {X : Type 0} → Result X Refusal → Option Told
 refused (Ok x) = None
 refused (Err e) = Some (told e)
-
--- the same of a refusal that may be there
-abbrev pub told_of : Option Refusal → Option Told
-told_of None = None
-told_of (Some e) = Some (told e)

@@ -1,11 +1,9 @@
 -- The edges of a ring of corners, and the inside test over the meaning of any arithmetic. Assumes nothing.
-use Rattle.std.specs.Prelude.{ℕ, ◌+◌, ◌%◌, Bool, cond, List, [], ◌∷◌, ◌++◌, take, drop, ◌==◌}
+use Rattle.std.specs.Prelude.{◌%◌, Bool, List, [], ◌∷◌, ◌++◌, take, drop, count_by, ◌==◌}
+use Rattle.std.specs.Slice.Iter.{iter_rest}
 use Rattle.plane.specs.Meaning.{Meaning}
-
--- an edge runs from a corner to a corner
-pub record Edge (C : Type 0) : Type 0 where
-  pub from : C
-  pub to : C
+use Rattle.plane.specs.declared.edge.Edge.{Edge}
+use Rattle.plane.specs.declared.edge.Edges.{Edges}
 
 -- each corner of the first list with the corner at its index in the second
 abbrev pub paired : {C : Type 0} → List C → List C → List (Edge C)
@@ -17,10 +15,9 @@ paired (p ∷ ps) (q ∷ qs) = record { from = p; to = q } ∷ paired ps qs
 unfoldable pub edges : {C : Type 0} → List C → List (Edge C)
 edges ps = paired ps (drop 1 ps ++ take 1 ps)
 
--- how many of a list pass a test
-abbrev pub how_many : {X : Type 0} → (X → Bool) → List X → ℕ
-how_many test [] = 0
-how_many test (x ∷ xs) = cond (test x) 1 0 + how_many test xs
+-- the edges still to come: each corner left with the next, and the last with the ring's first
+abbrev pub edges_left : {C : Type 0} → Edges C → List (Edge C)
+edges_left s = paired (iter_rest s.rest) (drop 1 (iter_rest s.rest) ++ take 1 s.ring.now)
 
 module _ {S R C M P : Type 0} (meaning : Meaning S R C M P) (a : S) where
   -- whether an edge counts for a point
@@ -29,4 +26,4 @@ module _ {S R C M P : Type 0} (meaning : Meaning S R C M P) (a : S) where
 
   -- a point lies inside a ring where an odd number of its edges count for the point
   abbrev pub inside : C → List C → Bool
-  inside p ring = how_many (passes p) (edges ring) % 2 == 1
+  inside p ring = count_by (passes p) (edges ring) % 2 == 1

@@ -1,7 +1,7 @@
 // What an arithmetic answers.
 
 /// Where a corner lies, seen along an edge; the source's counter-clockwise, clockwise and degenerate.
-#[derive(Clone, Copy, PartialEq, Eq)]
+#[derive(Clone, Copy, PartialEq, Eq, Debug)]
 pub enum Side {
     Left,
     Right,
@@ -9,7 +9,7 @@ pub enum Side {
 }
 
 /// How two edges meet. Marks come in pairs: a mark on the first edge, then its partner on the second.
-#[derive(Clone, Copy)]
+#[derive(Clone, Copy, PartialEq, Debug)]
 pub enum Meet<M> {
     Apart,
     Crossing(M, M),
@@ -17,7 +17,7 @@ pub enum Meet<M> {
 }
 
 /// An end of an edge.
-#[derive(Clone, Copy, PartialEq, Eq)]
+#[derive(Clone, Copy, PartialEq, Eq, Debug)]
 pub enum End {
     Start,
     Finish,

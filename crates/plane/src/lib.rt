@@ -4,7 +4,10 @@
 pub mod answer;
 pub mod arithmetic;
 pub mod check;
+pub mod edge;
+pub mod mark;
 pub mod outline;
+pub mod pair;
 pub mod point_in_poly2d;
 pub mod refusal;
 pub mod ring;

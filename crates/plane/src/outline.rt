@@ -1,29 +1,63 @@
 // Outlines that have been checked.
-ghost use Rattle.std.specs.Prelude.{◌≡◌, ◌≤◌, List, length};
+ghost use Rattle.std.specs.Prelude.{◌≡◌, ◌≤◌, List, [], length};
 ghost use Rattle.std.specs.List.{AllByRecursion};
 ghost use Rattle.plane.specs.Meaning.{Admitted};
 ghost use Rattle.plane.specs.Outlines.{most_corners};
+ghost use Rattle.plane.specs.Rings.{edges, edges_left};
 
 use crate::arithmetic::Arithmetic;
+use crate::edge::Edges;
+use std::marker::Model;
 
 /// The most corners that an outline holds.
 pub const MOST_CORNERS: usize = 1024;
 
-/// A checked outline: few enough corners, each of which the arithmetic admits.
-pub trait Outline<K: Arithmetic> {
-    // Its corners, in order.
-    ghost list: { Self → List K.Corner };
-
-    fn corners(&self) -> &[K::Corner]
-        ensures value { result.now ≡ list self.now }
-        ensures short { length result.now ≤ most_corners }
-        ensures fine { AllByRecursion (Admitted K.Arithmetic.meaning) result.now };
+/// A checked outline over corners that are lent for reading: few enough, each of which the arithmetic admits.
+/// A contract sees it as the list of its corners, in order.
+#[derive(Drop)]
+pub struct Outline<'a, K: Arithmetic> {
+    corners: &'a [K::Corner],
 }
 
-/// An outline that can be made over corners which are lent to it for reading.
-pub trait Over<'a, K: Arithmetic>: Outline<K> + Sized {
-    fn over(corners: &'a [K::Corner]) -> Self
+impl<'a, K: Arithmetic> Model for Outline<'a, K> {
+    ghost Value = { List K.Corner };
+
+    ghost view = { λ o. o.corners.now };
+
+    ghost invariant = { λ o. (length o.corners.now ≤ most_corners) × AllByRecursion (Admitted K.meaning) o.corners.now };
+}
+
+impl<'a, K: Arithmetic> Outline<'a, K> {
+    /// The outline over corners that are few and admitted.
+    pub fn over(corners: &'a [K::Corner]) -> Self
         requires short { length corners.now ≤ most_corners }
         requires fine { AllByRecursion (Admitted K.Arithmetic.meaning) corners.now }
-        ensures { Self.Outline.list result ≡ corners.now };
+        ensures { result ≡ corners.now }
+    {
+        Outline { corners }
+    }
+
+    /// An outline without corners.
+    pub fn empty() -> Self
+        ensures { result ≡ [] }
+    {
+        Outline { corners: &[] }
+    }
+
+    /// Its edges, in order.
+    pub fn edges(&self) -> Edges<'a, K::Corner>
+        ensures value { edges_left result ≡ edges self.now }
+        ensures few { length (edges_left result) ≤ most_corners }
+    {
+        Edges::of(self.corners)
+    }
+
+    /// Its corners, in order.
+    pub fn corners(&self) -> &'a [K::Corner]
+        ensures value { result.now ≡ self.now }
+        ensures short { length result.now ≤ most_corners }
+        ensures fine { AllByRecursion (Admitted K.Arithmetic.meaning) result.now }
+    {
+        self.corners
+    }
 }

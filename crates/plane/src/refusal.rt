@@ -2,9 +2,11 @@
 ghost use Rattle.std.specs.Prelude.{◌≡◌};
 ghost use Rattle.plane.specs.Refusals.{number_of, place_of};
 
+use std::fmt;
+
 /// One refusal for each reason that a call of this library can have.
 /// Where the place is not fixed, the variant carries it: an index, or the offset of a byte.
-#[derive(Clone, Copy, PartialEq, Eq)]
+#[derive(Clone, Copy, PartialEq, Eq, Debug)]
 pub enum Refusal {
     /// A walk is opened on an outline without corners.
     NoCorners,
@@ -68,5 +70,11 @@ impl Refusal {
             | Refusal::CutShort(place) => place,
             _ => 0,
         }
+    }
+}
+
+impl fmt::Display for Refusal {
+    fn fmt<W: fmt::Write>(&self, f: &mut fmt::Formatter<W>) -> fmt::Result {
+        write!(f, "refused {} {}", self.number(), self.place())
     }
 }

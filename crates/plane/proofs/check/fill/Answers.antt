@@ -1,5 +1,4 @@
-use Rattle.std.proofs.Common.{◌<◌, ◌≤◌, length, take, sym, ◌∙◌, subst₂, add-one, arith}
-use Rattle.std.proofs.lemmas.List.{take_all}
+use Rattle.std.proofs.Common.{◌<◌, length, take, sym, ◌∙◌, subst₂, add-one, arith}
 use Rattle.plane.specs.Outlines.{Corners}
 use Rattle.plane.proofs.Checks.{corners_more, wild_read}
 use Rattle.plane.proofs.check.fill.Goals as goal
@@ -15,11 +14,5 @@ loop-i-preserved g c =
       | in-Some w ↦
           let more = corners_more m raw c.loop-i.places i c.index-raw-i.result w.in-Some.corner c.loop-i-test.true within c.index-raw-i.is (sym c.admitted.ensures ∙ w.in-Some.is) c.loop-i.invariant in
           subst₂ (λ n l. Corners m (take n raw) (take n l)) (sym (add-one i)) (sym w.places-is) more
-      | in_default w ↦ absurd (wild_read m 0 raw i c.index-raw-i.result c.requires.fine c.loop-i-test.true c.index-raw-i.is (sym c.admitted.ensures ∙ w.in_default.is))
+      | in_default w ↦ absurd (wild_read m raw i c.index-raw-i.result c.requires.fine c.loop-i-test.true c.index-raw-i.is (sym c.admitted.ensures ∙ w.in_default.is))
     ]
-
-pub returns : goal.returns
-returns g c =
-    let short : length c.args.raw.now ≤ c.loop-i.i = c.loop-i-test.false in
-    let short' : length c.loop-i.places ≤ c.loop-i.i = omega (arith, c.loop-i.auto.places, c.requires.same) in
-    subst₂ (Corners g.K.Arithmetic.meaning) (take_all c.loop-i.i c.args.raw.now short) (take_all c.loop-i.i c.loop-i.places short') c.loop-i.invariant

@@ -6,7 +6,7 @@ ghost use Rattle.rules.specs.Rules.{totals};
 use crate::event::Event;
 
 /// How many loops were closed, and how many crossings and corners handed over.
-#[derive(Clone, Copy, PartialEq, Eq, Debug)]
+#[derive(Clone, Copy, PartialEq, Eq, Debug, Default)]
 pub struct Totals {
     pub loops: u32,
     pub crossings: u32,
@@ -18,11 +18,7 @@ impl Totals {
     pub fn none() -> Totals
         ensures { result ≡ totals [] }
     {
-        Totals {
-            loops: 0,
-            crossings: 0,
-            corners: 0,
-        }
+        Totals::default()
     }
 
     /// The totals with one more event, or nothing where 32 bits do not hold its count.

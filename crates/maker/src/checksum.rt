@@ -5,12 +5,21 @@ ghost use Rattle.maker.specs.Checksum.{weight_of, mixed, summed};
 use plane::refusal::Refusal;
 use plane::ring::Ring;
 use rules::event::Event;
+use std::marker::Model;
 use takers::taker::Taker;
 
 /// The checksum so far: 0 before the first event.
-#[derive(Clone, Copy)]
+#[derive(Clone, Copy, Default)]
 pub struct Checksum {
     sum: u32,
+}
+
+impl Model for Checksum {
+    ghost Value = { ℕ };
+
+    ghost view = { λ c. c.sum };
+
+    ghost inverse = { λ n. record { sum = n } };
 }
 
 // What an event counts for.
@@ -19,38 +28,37 @@ fn weight(event: Event) -> u32
 {
     match event {
         Event::Crossing { id, .. } => id,
-        Event::Corner {
-            ring: Ring::One,
-            index,
-        } => index ^ 0x4000_0000,
-        Event::Corner {
-            ring: Ring::Two,
-            index,
-        } => index ^ 0x8000_0000,
-        Event::Closing => 0xffff_ffff,
+        Event::Corner { ring, index } => {
+            let mark = match ring {
+                Ring::One => 0x4000_0000,
+                Ring::Two => 0x8000_0000,
+            };
+            index ^ mark
+        }
+        Event::Closing => u32::MAX,
     }
 }
 
 impl Checksum {
     /// Of no events.
     pub fn new() -> Checksum
-        ensures { result.sum ≡ 0 }
+        ensures { result ≡ 0 }
     {
-        Checksum { sum: 0 }
+        Checksum::default()
     }
 
     /// The checksum of the events taken.
     pub fn sum(&self) -> u32
-        ensures { result ≡ self.now.sum }
+        ensures { result ≡ self.now }
     {
         self.sum
     }
 }
 
 impl Taker for Checksum {
-    ghost Model = { ℕ };
+    ghost State = { ℕ };
 
-    ghost model = { λ c. c.sum };
+    ghost state = { λ c. c };
 
     ghost rule = { summed };
 

@@ -5,6 +5,7 @@ ghost use Rattle.takers.specs.Takers.{capped};
 use crate::taker::Taker;
 use plane::refusal::Refusal;
 use rules::event::Event;
+use std::marker::Model;
 
 /// Passes on a fixed number of events to another taker, and then refuses. What that taker refuses is not counted.
 #[derive(Drop)]
@@ -13,35 +14,39 @@ pub struct Cap<T> {
     to: T,
 }
 
+impl<T> Model for Cap<T> {
+    ghost Value = { ℕ × T };
+
+    ghost view = { λ c. (c.left, c.to) };
+}
+
 impl<T> Cap<T> {
     /// Passes on `count` events to the taker.
     pub fn new(count: u64, to: T) -> Cap<T>
-        ensures left { result.left ≡ count }
-        ensures taker { result.to ≡ to }
+        ensures { result ≡ (count, to) }
     {
         Cap { left: count, to }
     }
 
     /// How many events it still passes on.
     pub fn left(&self) -> u64
-        ensures { result ≡ self.now.left }
+        ensures { result ≡ self.now.0 }
     {
         self.left
     }
 
     /// The taker, given back.
     pub fn into_inner(self) -> T
-        ensures { result ≡ self.to }
+        ensures { result ≡ self.1 }
     {
-        let Cap { left: _, to } = self;
-        to
+        self.to
     }
 }
 
 impl<T: Taker> Taker for Cap<T> {
-    ghost Model = { ℕ × T.Taker.Model };
+    ghost State = { ℕ × T.Taker.State };
 
-    ghost model = { λ c. (c.left, T.Taker.model c.to) };
+    ghost state = { λ c. (c.0, T.Taker.state c.1) };
 
     ghost rule = { capped T.Taker.rule };
 

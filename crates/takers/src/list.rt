@@ -1,62 +1,64 @@
 // A taker that stores events in lent places.
-ghost use Rattle.std.specs.Prelude.{◌≡◌, ℕ, ◌≤◌, List, length, take};
+ghost use Rattle.std.specs.Prelude.{◌≡◌, ℕ, ◌+◌, ◌≤◌, List, [], length, take, drop};
 ghost use Rattle.rules.specs.declared.event.Event.{Event as AnEvent};
 ghost use Rattle.takers.specs.Takers.{listed};
 
 use crate::taker::Taker;
 use plane::refusal::Refusal;
 use rules::event::Event;
+use std::marker::Model;
 
 /// Stores events in the caller's places, from the front.
 #[derive(Drop)]
 pub struct EventList<'a> {
+    // The places are the caller's, since nothing here is on a heap.
     places: &'a mut [Event],
     len: usize,
-    ghost within: { len ≤ length places.now },
+}
+
+// The events stored, and the places that are free.
+impl<'a> Model for EventList<'a> {
+    ghost Value = { List AnEvent × List AnEvent };
+
+    ghost view = { λ l. (take l.len l.places.now, drop l.len l.places.now) };
+
+    ghost invariant = { λ l. l.len ≤ length l.places.now };
 }
 
 impl<'a> EventList<'a> {
     /// No events yet, and places for as many as are lent.
     pub fn new(places: &'a mut [Event]) -> Self
-        ensures places { result.places.now ≡ places.old }
-        ensures len { result.len ≡ 0 }
+        ensures { result ≡ ([], places.old) }
     {
         EventList { places, len: 0 }
     }
-}
 
-impl EventList<'_> {
     /// The events stored, in order.
     pub fn events(&self) -> &[Event]
-        ensures { result.now ≡ take self.now.len self.now.places.now }
+        ensures { result.now ≡ self.now.0 }
     {
-        let n = self.len;
-        &self.places[0..n]
+        &self.places[..self.len]
     }
 }
 
 impl<'a> Taker for EventList<'a> {
-    ghost Model = { ℕ × List AnEvent };
+    ghost State = { ℕ × List AnEvent };
 
-    ghost model = { λ l. (length l.places.now, take l.len l.places.now) };
+    ghost state = { λ l. (length l.0 + length l.1, l.0) };
 
     ghost rule = { listed };
 
     fn ask(&self, _event: Event) -> Result<(), Refusal> {
-        if self.len < self.places.len() {
-            Ok(())
-        } else {
-            Err(Refusal::NoPlace)
+        if self.len == self.places.len() {
+            return Err(Refusal::NoPlace);
         }
+        Ok(())
     }
 
     fn take(&mut self, event: Event) -> Result<(), Refusal> {
-        if self.len < self.places.len() {
-            self.places[self.len] = event;
-            self.len += 1;
-            Ok(())
-        } else {
-            Err(Refusal::NoPlace)
-        }
+        self.ask(event)?;
+        self.places[self.len] = event;
+        self.len += 1;
+        Ok(())
     }
 }

@@ -8,59 +8,61 @@ use crate::taker::Taker;
 use plane::refusal::Refusal;
 use rules::event::Event;
 use rules::totals::Totals;
+use std::marker::Model;
 
 /// Counts loops, crossings and corners, each in 32 bits.
-#[derive(Clone, Copy)]
+#[derive(Clone, Copy, Default)]
 pub struct Tally {
     totals: Totals,
+}
+
+impl Model for Tally {
+    ghost Value = { Counts };
+
+    ghost view = { λ t. t.totals };
+
+    ghost inverse = { λ c. record { totals = c } };
 }
 
 impl Tally {
     /// Nothing counted yet.
     pub fn new() -> Tally
-        ensures { result.totals ≡ totals [] }
+        ensures { result ≡ totals [] }
     {
-        Tally {
-            totals: Totals::none(),
-        }
-    }
-
-    /// With these counts to go on from.
-    pub fn from_totals(totals: Totals) -> Tally
-        ensures { result.totals ≡ totals }
-    {
-        Tally { totals }
+        Tally::default()
     }
 
     /// What has been counted.
     pub fn totals(&self) -> Totals
-        ensures { result ≡ self.now.totals }
+        ensures { result ≡ self.now }
     {
         self.totals
     }
 }
 
-impl Taker for Tally {
-    ghost Model = { Counts };
+impl From<Totals> for Tally {
+    ghost from_gives = { λ counts tally. tally ≡ counts };
 
-    ghost model = { λ t. t.totals };
+    /// With these counts to go on from.
+    fn from(totals: Totals) -> Tally {
+        Tally { totals }
+    }
+}
+
+impl Taker for Tally {
+    ghost State = { Counts };
+
+    ghost state = { λ t. t };
 
     ghost rule = { tallied };
 
     fn ask(&self, event: Event) -> Result<(), Refusal> {
-        match self.totals.with(event) {
-            Some(_) => Ok(()),
-            None => Err(Refusal::NoPlace),
-        }
+        self.totals.with(event).ok_or(Refusal::NoPlace)?;
+        Ok(())
     }
 
     fn take(&mut self, event: Event) -> Result<(), Refusal> {
-        match self.totals.with(event) {
-            Some(totals) => {
-                self.totals = totals;
-                Ok(())
-            }
-            None => Err(Refusal::NoPlace),
-        }
+        self.totals = self.totals.with(event).ok_or(Refusal::NoPlace)?;
+        Ok(())
     }
 }

@@ -21,7 +21,7 @@ const CORNER: Event = Event::Corner {
 
 #[test]
 fn a_count_stops_at_its_most(rt: HostRuntime) {
-    let mut tally = Tally::from_totals(Totals {
+    let mut tally = Tally::from(Totals {
         loops: u32::MAX,
         crossings: 0,
         corners: u32::MAX - 1,
@@ -30,9 +30,12 @@ fn a_count_stops_at_its_most(rt: HostRuntime) {
     assert!(rt; tally.take(CORNER).is_ok());
     assert!(rt; matches!(tally.ask(CORNER), Err(Refusal::NoPlace)));
     assert!(rt; tally.take(CROSSING).is_ok());
-    assert_eq!(rt; tally.totals().loops, u32::MAX);
-    assert_eq!(rt; tally.totals().corners, u32::MAX);
-    assert_eq!(rt; tally.totals().crossings, 1);
+    let counted = Totals {
+        loops: u32::MAX,
+        crossings: 1,
+        corners: u32::MAX,
+    };
+    assert_eq!(rt; tally.totals(), counted);
 }
 
 #[test]
@@ -42,7 +45,7 @@ fn a_full_list_and_a_spent_cap_refuse(rt: HostRuntime) {
     assert!(rt; list.take(CROSSING).is_ok());
     assert!(rt; list.take(CORNER).is_ok());
     assert!(rt; matches!(list.take(CORNER), Err(Refusal::NoPlace)));
-    assert!(rt; list.events().len() == 2);
+    assert_eq!(rt; list.events().len(), 2);
     let mut none = Cap::new(0, Tally::new());
     assert!(rt; matches!(none.take(CORNER), Err(Refusal::LimitReached)));
     let mut one = Cap::new(1, Tally::new());

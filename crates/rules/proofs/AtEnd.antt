@@ -5,7 +5,7 @@ use Rattle.rules.specs.declared.event.Event.{Event}
 use Rattle.rules.specs.Lists.{In, first_but}
 use Rattle.rules.specs.Chart.{Chart, Sound}
 use Rattle.rules.specs.Rules.{State, under_way, crossings, in_order, begun_at, or_else, round_of, first_due, due_in, Finished}
-use Rattle.rules.proofs.Members.{some_none, first_but_none}
+use Rattle.rules.proofs.Members.{first_but_none}
 use Rattle.rules.proofs.NextEvent.{in_order_all}
 
 -- amid a loop an event is always due
@@ -14,12 +14,12 @@ at_rest c s h = go (under_way s.past) h
   where
     go : (u : List Event) → due_in c s u ≡ None → u ≡ []
     go [] d = refl
-    go (e ∷ es) d = absurd (some_none refl d)
+    go (e ∷ es) d = cc
 
 not_begun : (c : Chart) (o q : Option ℕ) → begun_at c (or_else o q) ≡ None → q ≡ None
-not_begun c (Some x) q d = absurd (some_none refl d)
+not_begun c (Some x) q d = cc
 not_begun c None None d = refl
-not_begun c None (Some x) d = absurd (some_none refl d)
+not_begun c None (Some x) d = cc
 
 none_left : (c : Chart) → Sound c → (s : State) → first_due c s ≡ None → (x : ℕ) → x < c.count → In x (crossings s.past)
 none_left c sound s d x h =
@@ -33,4 +33,4 @@ none_lost c sound s h = go (under_way s.past) h
   where
     go : (u : List Event) → due_in c s u ≡ None → (x : ℕ) → x < c.count → In x (crossings s.past)
     go [] d = none_left c sound s d
-    go (e ∷ es) d = absurd (some_none refl d)
+    go (e ∷ es) d = cc

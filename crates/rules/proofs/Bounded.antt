@@ -45,11 +45,11 @@ module _ (c : Chart) (sound : Sound c) where
   closing_comes k s Closing h d f = (suc zero, (Closing, d, inl (refl, refl)), omega arith)
   closing_comes zero s (Crossing x a b) h d f = absurd (let n = few_items c sound (handed_traced c s (Crossing x a b) h d).trail in omega arith)
   closing_comes (suc k) s (Crossing x a b) h d f =
-      one_sooner k s (Crossing x a b) d (λ q. let z : ◌≡◌ {A = ℕ} 0 1 = cc in omega arith)
+      one_sooner k s (Crossing x a b) d (λ q. cc)
       (closing_comes k (hand_over s (Crossing x a b)) _ (handed_traced c s (Crossing x a b) h d) refl (omega arith))
   closing_comes zero s (Corner r i) h d f = absurd (let n = few_items c sound (handed_traced c s (Corner r i) h d).trail in omega arith)
   closing_comes (suc k) s (Corner r i) h d f =
-      one_sooner k s (Corner r i) d (λ q. let z : ◌≡◌ {A = ℕ} 0 1 = cc in omega arith)
+      one_sooner k s (Corner r i) d (λ q. cc)
       (closing_comes k (hand_over s (Corner r i)) _ (handed_traced c s (Corner r i) h d) refl (omega arith))
 
   pub loop-ends : (s : State) → Traced c s → (Finished c s → ⊥) → (m : ℕ) × Needs c s m × (m ≤ all + 1)
@@ -77,13 +77,13 @@ module _ (c : Chart) (sound : Sound c) where
 
   step_too_long : (s : State) → Traced c s → ((step c s).0 ≡ refused (told LoopTooLong) → TooLong c s) × (TooLong c s → (step c s).0 ≡ refused (told LoopTooLong))
   step_too_long s h = (
-    on_step c s (λ r. r.0 ≡ refused (told LoopTooLong) → TooLong c s) (λ _ q. absurd (let z : ◌≡◌ {A = ℕ} 0 1 = cc in omega arith)) (λ l _. too_long_at s h l) (λ e _ _ q. absurd (let z : ◌≡◌ {A = ℕ} 0 1 = cc in omega arith)),
-    λ t. on_step c s (λ r. r.0 ≡ refused (told LoopTooLong)) (λ d. absurd (not_finished c s t.3 d)) (λ _. refl) (λ e l _. absurd (both_ways (at_limit c s) l (limit_at s t))),
+    on_step c s (λ r. r.0 ≡ refused (told LoopTooLong) → TooLong c s) (λ _ q. cc) (λ l _. too_long_at s h l) (λ e _ _ q. cc),
+    λ t. on_step c s (λ r. r.0 ≡ refused (told LoopTooLong)) (λ d. absurd (not_finished c s t.3 d)) (λ _. refl) (λ e l _. cc (limit_at s t)),
   )
 
   begin_too_long : (s : State) (x : ℕ) → Traced c s → ((begin c s x).0 ≡ refused (told LoopTooLong) → TooLong c s) × (TooLong c s → (begin c s x).0 ≡ refused (told LoopTooLong))
   begin_too_long s x h = (
-    on_begin c s x (λ r. r.0 ≡ refused (told LoopTooLong) → TooLong c s) (λ l _. too_long_at s h l) (λ n d q. absurd (d (cc))) (λ _ _ _ q. absurd (let z : ◌≡◌ {A = ℕ} 0 1 = cc in omega arith)),
+    on_begin c s x (λ r. r.0 ≡ refused (told LoopTooLong) → TooLong c s) (λ l _. too_long_at s h l) (λ n d q. absurd (d (cc))) (λ _ _ _ q. cc),
     λ t. ap (λ (r : Answer × State). r.0) (cond-true (at_limit c s) (refused (told LoopTooLong), s) _ (limit_at s t)),
   )
 
@@ -95,9 +95,9 @@ module _ (c : Chart) (sound : Sound c) where
         P _ s t r = Traced c s → (r.why ≡ spent → ⊥) → (r.why ≡ long → TooLong c r.walk) × (TooLong c r.walk → r.why ≡ long)
 
         stop : (k : ℕ) (s : State) (t : S) (w : Reason) → Stops c s w → Traced c s → (w ≡ spent → ⊥) → (w ≡ long → TooLong c s) × (TooLong c s → w ≡ long)
-        stop k s t w (stops_at_end d) h n = (λ q. absurd (let z : ◌≡◌ {A = ℕ} 0 1 = cc in omega arith), λ b. absurd (not_finished c s b.3 d))
+        stop k s t w (stops_at_end d) h n = (λ q. cc, λ b. absurd (not_finished c s b.3 d))
         stop k s t w (stops_long l) h n = (λ _. too_long_at s h l, λ _. refl)
-        stop k s t w (stops_by_taker m l) h n = (λ q. absurd (let z : ◌≡◌ {A = ℕ} 0 1 = cc in omega arith), λ b. absurd (both_ways (at_limit c s) l (limit_at s b)))
+        stop k s t w (stops_by_taker m l) h n = (λ q. cc, λ b. cc (limit_at s b))
 
     -- a run of up to k events is spent exactly where it handed over k
     run_is_spent : (k : ℕ) (s : State) (t : S) → ((run c rule k s t).why ≡ spent → length (run c rule k s t).handed ≡ k) × (length (run c rule k s t).handed ≡ k → (run c rule k s t).why ≡ spent)
@@ -107,9 +107,9 @@ module _ (c : Chart) (sound : Sound c) where
         P k s t r = (r.why ≡ spent → length r.handed ≡ k) × (length r.handed ≡ k → r.why ≡ spent)
 
         stop : (k : ℕ) (s : State) (t : S) (w : Reason) → Stops c s w → (w ≡ spent → 0 ≡ suc k) × (0 ≡ suc k → w ≡ spent)
-        stop k s t w (stops_at_end _) = (λ q. absurd (let z : ◌≡◌ {A = ℕ} 0 1 = cc in omega arith), λ q. absurd (omega arith))
-        stop k s t w (stops_long _) = (λ q. absurd (let z : ◌≡◌ {A = ℕ} 0 1 = cc in omega arith), λ q. absurd (omega arith))
-        stop k s t w (stops_by_taker _ _) = (λ q. absurd (let z : ◌≡◌ {A = ℕ} 0 1 = cc in omega arith), λ q. absurd (omega arith))
+        stop k s t w (stops_at_end _) = (λ q. cc, λ q. cc)
+        stop k s t w (stops_long _) = (λ q. cc, λ q. cc)
+        stop k s t w (stops_by_taker _ _) = (λ q. cc, λ q. cc)
 
         more : (k : ℕ) (s : State) (t : S) (e : Event) (u : S) (r : Ran S) → at_limit c s ≡ false → due c s ≡ Some e → rule t e ≡ accepts u → P k (hand_over s e) u r → (r.why ≡ spent → suc (length r.handed) ≡ suc k) × (suc (length r.handed) ≡ suc k → r.why ≡ spent)
         more k s t e u r _ _ _ h = (λ q. ap suc (h.0 q), λ q. h.1 (omega arith))

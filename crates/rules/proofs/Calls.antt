@@ -21,10 +21,6 @@ module _ (c : Chart) (s : State) (P : Answer × State → Type 0)
   pub on_step : P (step c s)
   on_step = on_stepped (due c s) refl
 
--- refusals of other numbers differ
-other_number : (e f : Refusal) → (number_of e ≡ number_of f → ⊥) → told e ≡ told f → ⊥
-other_number e f d q = d (ap (λ t. t.number) q)
-
 -- a begin is refused as too long or otherwise, or leaves its choice
 module _ (c : Chart) (s : State) (x : ℕ) (P : Answer × State → Type 0)
     (full : at_limit c s ≡ true → P (refused (told LoopTooLong), s))
@@ -33,9 +29,9 @@ module _ (c : Chart) (s : State) (x : ℕ) (P : Answer × State → Type 0)
   pub on_begin : P (begin c s x)
   on_begin =
       cond_both (at_limit c s) _ _ P full (λ _.
-      cond_both (leb c.count x) _ _ P (λ _. refuse (told (Unknown 0)) (other_number (Unknown 0) LoopTooLong (omega arith))) (λ known.
-      cond_both (amid (under_way s.past)) _ _ P (λ _. refuse (told InsideLoop) (other_number InsideLoop LoopTooLong (omega arith))) (λ rests.
-      cond_both (has x (crossings s.past)) _ _ P (λ _. refuse (told HandedOver) (other_number HandedOver LoopTooLong (omega arith))) (λ free. choose (leb-false c.count x known) free rests))))
+      cond_both (leb c.count x) _ _ P (λ _. refuse (told (Unknown 0)) (λ q. grind arith)) (λ known.
+      cond_both (amid (under_way s.past)) _ _ P (λ _. refuse (told InsideLoop) (λ q. grind arith)) (λ rests.
+      cond_both (has x (crossings s.past)) _ _ P (λ _. refuse (told HandedOver) (λ q. grind arith)) (λ free. choose (leb-false c.count x known) free rests))))
 
 -- why a run that may hand over one more ends at a walk
 pub data Stops (c : Chart) (s : State) : Reason → Type 0 where

@@ -39,7 +39,7 @@ module _ {S : Type 0} (c : Chart) (rule : S → Event → Taken S) where
 
 at_rest_is : (u : List Event) → amid u ≡ false → u ≡ []
 at_rest_is [] h = refl
-at_rest_is (e ∷ es) h = absurd (both_ways (amid (e ∷ es)) h refl)
+at_rest_is (e ∷ es) h = cc
 
 module _ (c : Chart) where
   first_chosen : (s : State) (x : ℕ) → s.chosen ≡ Some x → x < c.count → first_due c s ≡ Some (event_of c x)

@@ -118,8 +118,8 @@ module _ (c : Chart) (sound : Sound c) where
   no_overflow : (s : State) → Traced c s → c.count < most_counted → c.corners One + c.corners Two ≤ most_counted → (e : Event) → (step c s).0 ≡ gave e → counted (totals s.past) e ≡ Some (totals (e ∷ s.past))
   no_overflow s h xs cs e =
       on_step c s (λ r. r.0 ≡ gave e → counted (totals s.past) e ≡ Some (totals (e ∷ s.past)))
-      (λ _ q. absurd (let z : ◌≡◌ {A = ℕ} 0 1 = cc in omega arith))
-      (λ _ q. absurd (let z : ◌≡◌ {A = ℕ} 0 1 = cc in omega arith))
+      (λ _ q. cc)
+      (λ _ q. cc)
       (λ f _ d q. let is : f ≡ e = cc in subst (λ g. counted (totals s.past) g ≡ Some (totals (g ∷ s.past))) is (counted_one xs cs f s.past (handed_traced c s f h d).trail))
 
   pub counted_at : (s : State) → Reached c s → Counted c s

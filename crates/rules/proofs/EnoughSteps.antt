@@ -5,7 +5,7 @@ use Rattle.rules.specs.Chart.{Chart, Sound}
 use Rattle.rules.specs.Rules.{State, crossings, due, at_limit, Answer, step, begin, Taken, Finished}
 use Rattle.rules.specs.Strings.{Call, a_begin, a_step, a_run, a_rewind, Scene, make, play, later, Reached, by_step, by_begin}
 use Rattle.rules.specs.Promise.{BeginsAndSteps}
-use Rattle.rules.proofs.Members.{some_none, not_in}
+use Rattle.rules.proofs.Members.{not_in}
 use Rattle.rules.proofs.Calls.{on_step, on_begin}
 use Rattle.rules.proofs.Reached.{step_on}
 use Rattle.rules.proofs.AtEnd.{none_lost}
@@ -21,7 +21,7 @@ module _ (c : Chart) (sound : Sound c) {S : Type 0} (rule : S → Event → Take
   -- a finished walk stays as it is
 
   step_finished : (s : State) → Finished c s → (step c s).1 ≡ s
-  step_finished s h = on_step c s (λ r. r.1 ≡ s) (λ _. refl) (λ _. refl) (λ e _ d. absurd (some_none d h))
+  step_finished s h = on_step c s (λ r. r.1 ≡ s) (λ _. refl) (λ _. refl) (λ e _ d. cc)
 
   begin_finished : (s : State) (x : ℕ) → Finished c s → (begin c s x).1 ≡ s
   begin_finished s x h = on_begin c s x (λ r. r.1 ≡ s) (λ _. refl) (λ _ _. refl) (λ known free _. absurd (not_in x (crossings s.past) free (none_lost c sound s h x known)))

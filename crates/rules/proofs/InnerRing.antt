@@ -9,7 +9,6 @@ use Rattle.rules.specs.Lists.{In, upto, first}
 use Rattle.rules.specs.Chart.{Chart, Sound, corner, reach, next, next_corner}
 use Rattle.rules.specs.Rules.{State, under_way, due_place, at, round_of, first_due, due_in, due, Finished}
 use Rattle.rules.specs.Promise.{loops, inner_loops}
-use Rattle.rules.proofs.Members.{some_none}
 use Rattle.rules.proofs.Trails.{Trail, begun, went_on}
 use Rattle.rules.proofs.AtEnd.{at_rest}
 use Rattle.rules.proofs.Loops.{closed, loops_closed}
@@ -67,7 +66,7 @@ module _ (c : Chart) (sound : Sound c) (none : c.count ≡ 0) where
       ap (due_in c (record { past = back r (suc k); chosen = o })) (back_under_way r (suc k)) ∙ ap (λ p. Some (at c (back r (suc k)) p)) (due-corner r k h)
 
   begin_round : (i : Option Ring) (e : Event) → c.inner ≡ i → round_of i [] ≡ Some e → RoundSoFar (e ∷ [])
-  begin_round None e is d = absurd (some_none d refl)
+  begin_round None e is d = cc
   begin_round (Some r) e is d = let p : Corner r 0 ≡ e = cc in amid r 0 is (sound.some_corner r) (ap (λ f. f ∷ []) (sym p))
 
   at_last : (r : Ring) (k : ℕ) → k + 1 ≡ c.corners r → at c (back r (suc k)) (corner r (next_corner c r k)) ≡ Closing
@@ -108,7 +107,7 @@ module _ (c : Chart) (sound : Sound c) (none : c.count ≡ 0) where
       let q = sym (amid_is r k o h) ∙ subst (λ p. due c (record { past = p; chosen = o }) ≡ Some e) is d in
       subst (λ p. RoundSoFar (e ∷ p)) (sym is) (more_round r k e i h (cc))
   more_past past o e d (over r i is) =
-      absurd (some_none d (none_due (record { past = past; chosen = o }) r i is))
+      cc (none_due (record { past = past; chosen = o }) r i is)
 
   round_so_far : (past : List Event) → Trail c past → RoundSoFar past
   round_so_far [] begun = not_begun refl
@@ -119,17 +118,17 @@ module _ (c : Chart) (sound : Sound c) (none : c.count ≡ 0) where
   round_under_way s e t d = go (round_so_far s.past t)
     where
       first : (i : Option Ring) → c.inner ≡ i → round_of i [] ≡ Some e → s.past ≡ [] → (r : Ring) × (c.inner ≡ Some r) × (length s.past ≤ c.corners r) × (under_way s.past ≡ s.past)
-      first None _ q is = absurd (some_none q refl)
+      first None _ q is = cc
       first (Some r) i q is = (r, i, subst (λ p. length p ≤ c.corners r) (sym is) (omega arith), subst (λ p. under_way p ≡ p) (sym is) refl)
 
       go : RoundSoFar s.past → (r : Ring) × (c.inner ≡ Some r) × (length s.past ≤ c.corners r) × (under_way s.past ≡ s.past)
       go (not_begun is) = first c.inner refl (sym (first_is [] s.chosen) ∙ subst (λ p. due c (record { past = p; chosen = s.chosen }) ≡ Some e) is d) is
       go (amid r k i h is) = (r, i, (let n = ap length is ∙ back_length r (suc k) in omega arith), subst (λ p. under_way p ≡ p) (sym is) (back_under_way r (suc k)))
-      go (over r i is) = absurd (some_none d (none_due s r i is))
+      go (over r i is) = cc (none_due s r i is)
 
   no_inner : (i : Option Ring) → c.inner ≡ i → round_of i [] ≡ None → [] ≡ inner_loops c i
   no_inner None is d = refl
-  no_inner (Some r) is d = absurd (some_none refl d)
+  no_inner (Some r) is d = cc
 
   -- a finished walk is not begun, for want of a ring inside, or its round is over
   data Ended (s : State) : Type 0 where
@@ -141,7 +140,7 @@ module _ (c : Chart) (sound : Sound c) (none : c.count ≡ 0) where
     where
       go : RoundSoFar s.past → Ended s
       go (not_begun is) = for_want is (sym (first_is [] s.chosen) ∙ subst (λ p. due c (record { past = p; chosen = s.chosen }) ≡ None) is h)
-      go (amid r k i b is) = absurd (let z : ◌≡◌ {A = List Event} (back r (suc k)) [] = sym (back_under_way r (suc k)) ∙ ap under_way (sym is) ∙ at_rest c s h in let y : ◌≡◌ {A = ℕ} 0 1 = cc in omega arith)
+      go (amid r k i b is) = cc (back_under_way r (suc k), at_rest c s h)
       go (over r i is) = all_round r i is
 
   closed_round : (r : Ring) → closed (Closing ∷ back r (c.corners r)) ≡ back r (c.corners r) ∷ []
@@ -161,7 +160,7 @@ module _ (c : Chart) (sound : Sound c) (none : c.count ≡ 0) where
   whole_round s r t h i = go (has_ended s t h)
     where
       go : Ended s → (l : List Event) × In l (closed s.past) × (length l ≡ c.corners r)
-      go (for_want is d) = absurd (some_none refl (ap (λ j. round_of j []) (sym i) ∙ d))
+      go (for_want is d) = cc (ap (λ j. round_of j []) (sym i) ∙ d)
       go (all_round q j is) =
           let p : q ≡ r = cc in
           (back q (c.corners q), subst (In (back q (c.corners q))) (sym (ap closed is ∙ closed_round q)) (inl refl), back_length q (c.corners q) ∙ ap c.corners p)

@@ -6,9 +6,6 @@ use Rattle.std.proofs.lemmas.Bool.{eqb-true, eq-eqb, or_cases, or_left, or_right
 use Rattle.std.proofs.lemmas.List.{length-append}
 use Rattle.rules.specs.Lists.{In, Once, has, upto, first_but}
 
-pub some_none : {A : Type 0} {o : Option A} {x : A} → o ≡ Some x → o ≡ None → ⊥
-some_none {A} {o} {x} p q = let z : ◌≡◌ {A = ℕ} 0 1 = cc in omega arith
-
 -- the test of In
 
 pub in_has : (x : ℕ) (l : List ℕ) → In x l → has x l ≡ true
@@ -17,11 +14,11 @@ in_has x (y ∷ ys) (inl e) = or_left (eqb x y) (has x ys) (eq-eqb x y e)
 in_has x (y ∷ ys) (inr i) = or_right (eqb x y) (has x ys) (in_has x ys i)
 
 pub has_in : (x : ℕ) (l : List ℕ) → has x l ≡ true → In x l
-has_in x [] h = absurd (both_ways false refl h)
+has_in x [] h = cc
 has_in x (y ∷ ys) h = ⊎_elim (λ e. inl (eqb-true x y e)) (λ e. inr (has_in x ys e)) (or_cases (eqb x y) (has x ys) h)
 
 pub not_in : (x : ℕ) (l : List ℕ) → has x l ≡ false → In x l → ⊥
-not_in x l h i = both_ways (has x l) h (in_has x l i)
+not_in x l h i = cc (in_has x l i)
 
 module _ {A : Type 0} where
   -- two lists, one behind the other
@@ -140,7 +137,7 @@ length-upto zero = refl
 length-upto (suc n) = length-append (upto n) (n ∷ []) ∙ (let h = length-upto n in omega arith)
 
 pub first_but_some : (others l : List ℕ) (x : ℕ) → first_but others l ≡ Some x → In x l × (has x others ≡ false)
-first_but_some others [] x p = absurd (some_none p refl)
+first_but_some others [] x p = cc
 first_but_some others (y ∷ ys) x p =
     cond_both (has y others) (first_but others ys) (Some y) (λ o. o ≡ Some x → In x (y ∷ ys) × (has x others ≡ false))
     (λ _ q. let r = first_but_some others ys x q in (inr r.0, r.1))
@@ -152,5 +149,5 @@ first_but_none others [] p x i = absurd i
 first_but_none others (y ∷ ys) p x i =
     cond_both (has y others) (first_but others ys) (Some y) (λ o. o ≡ None → In x others)
     (λ e q. ⊎_elim (λ d. subst (λ z. In z others) (sym d) (has_in y others e)) (first_but_none others ys q x) i)
-    (λ _ q. absurd (some_none refl q))
+    (λ _ q. cc)
     p

@@ -8,7 +8,7 @@ use Rattle.rules.specs.declared.event.Event.TheVariants.{Crossing, Corner, Closi
 use Rattle.rules.specs.Lists.{In, has, upto, first_but}
 use Rattle.rules.specs.Chart.{Chart, Sound, Place, corner, crossing, next}
 use Rattle.rules.specs.Rules.{under_way, crossings, event_of, start, due_place, at, in_order, begun_at, or_else, round_of, first_due, due_in, due}
-use Rattle.rules.proofs.Members.{some_none, in_joined, from_joined, in_upto, first_but_some}
+use Rattle.rules.proofs.Members.{in_joined, from_joined, in_upto, first_but_some}
 use Rattle.rules.proofs.Places.{Valid, event_at, valid_next}
 use Rattle.rules.proofs.Trails.{Allowed, Trail, begun, went_on}
 
@@ -50,12 +50,12 @@ handed_at c past (crossing x r) e d = cond_both (has x (crossings past)) Closing
 
 round_first : (o : Option Ring) (past : List Event) (e : Event) → round_of o past ≡ Some e → (r : Ring) × (e ≡ Corner r 0) × (past ≡ [])
 round_first (Some r) [] e d = (r, cc, refl)
-round_first (Some r) (f ∷ es) e d = absurd (some_none d refl)
-round_first None es e d = absurd (some_none d refl)
+round_first (Some r) (f ∷ es) e d = cc
+round_first None es e d = cc
 
 begun_first : (c : Chart) (o : Option ℕ) (e : Event) → begun_at c o ≡ Some e → (x : ℕ) × (o ≡ Some x) × (e ≡ event_of c x)
 begun_first c (Some x) e d = (x, refl, cc)
-begun_first c None e d = absurd (some_none d refl)
+begun_first c None e d = cc
 
 module _ (c : Chart) (sound : Sound c) where
   pub in_order_below : (x : ℕ) → In x (in_order c) → x < c.count
@@ -109,10 +109,10 @@ module _ (c : Chart) (sound : Sound c) where
     within_loop : (q : Place) (rest : List Event) → past ≡ event_at c q ∷ rest → Valid c q → e ≡ event_at c (next c q) → Free c past (next c q) → Came past e
 
   latest : (past : List Event) (f : Event) (us : List Event) → under_way past ≡ f ∷ us → (rest : List Event) × (past ≡ f ∷ rest)
-  latest [] f us w = absurd (let z : ◌≡◌ {A = ℕ} 0 1 = cc in omega arith)
+  latest [] f us w = cc
   latest (Crossing x a b ∷ es) f us w = (es, cc)
   latest (Corner r i ∷ es) f us w = (es, cc)
-  latest (Closing ∷ es) f us w = absurd (let z : ◌≡◌ {A = ℕ} 0 1 = cc in omega arith)
+  latest (Closing ∷ es) f us w = cc
 
   came_next : (past : List Event) (e f : Event) (us : List Event) → under_way past ≡ f ∷ us → Stood (f ∷ us) → HandedAt c past (due_place c f us) e → Came past e
   came_next past e f us w h (closes is) = end_of_loop f us w is

@@ -8,7 +8,6 @@ use Rattle.rules.specs.Chart.{Chart, Sound, Place, corner, crossing, other, next
 use Rattle.rules.specs.declared.event.Event.{Event}
 use Rattle.rules.specs.declared.event.Event.TheVariants.{Corner}
 use Rattle.rules.specs.Rules.{event_of}
-use Rattle.rules.proofs.Members.{some_none}
 
 -- a place of the chart
 abbrev pub Valid : Chart → Place → Type 0
@@ -37,16 +36,16 @@ before y (x ∷ []) = None
 before y (x ∷ (z ∷ zs)) = cond (eqb y z) (Some x) (before y (z ∷ zs))
 
 pub in_first : (l : List ℕ) (y : ℕ) → first l ≡ Some y → In y l
-in_first [] y p = absurd (some_none p refl)
+in_first [] y p = cc
 in_first (x ∷ xs) y p = inl (cc)
 
 -- what stands behind another is not the list's first
 pub in_tail : (z : ℕ) (zs : List ℕ) (x y : ℕ) → behind x (z ∷ zs) ≡ Some y → In y zs
-in_tail z [] x y p = absurd (cond_both (eqb x z) None None (λ o. o ≡ Some y → ⊥) (λ _ q. some_none q refl) (λ _ q. some_none q refl) p)
+in_tail z [] x y p = absurd (cond_both (eqb x z) None None (λ o. o ≡ Some y → ⊥) (λ _ q. cc) (λ _ q. cc) p)
 in_tail z (w ∷ ws) x y p = cond_both (eqb x z) (Some w) (behind x (w ∷ ws)) (λ o. o ≡ Some y → In y (w ∷ ws)) (λ _. in_first (w ∷ ws) y) (λ _ q. inr (in_tail w ws x y q)) p
 
 pub in_behind : (l : List ℕ) (x y : ℕ) → behind x l ≡ Some y → In y l
-in_behind [] x y p = absurd (some_none p refl)
+in_behind [] x y p = cc
 in_behind (z ∷ zs) x y p = inr (in_tail z zs x y p)
 
 -- y does not stand behind the first of the list
@@ -59,7 +58,7 @@ before_first [] y u p = refl
 before_first (x ∷ xs) y u p = before_not_in x xs y (λ h. u.0 (subst (λ z. In z xs) (cc) h))
 
 pub before_behind : (l : List ℕ) (x y : ℕ) → Once l → behind x l ≡ Some y → before y l ≡ Some x
-before_behind [] x y u p = absurd (some_none p refl)
+before_behind [] x y u p = cc
 before_behind (z ∷ []) x y u p = absurd (in_tail z [] x y p)
 before_behind (z ∷ (w ∷ ws)) x y u p =
     cond_both (eqb x z) (Some w) (behind x (w ∷ ws)) (λ o. o ≡ Some y → before y (z ∷ (w ∷ ws)) ≡ Some x)
@@ -74,7 +73,7 @@ last_in (z ∷ []) x (inl e) p = ap Some (sym e)
 last_in (z ∷ []) x (inr i) p = absurd i
 last_in (z ∷ (w ∷ ws)) x i p =
     cond_both (eqb x z) (Some w) (behind x (w ∷ ws)) (λ o. o ≡ None → last (w ∷ ws) ≡ Some x)
-    (λ e q. absurd (some_none refl q))
+    (λ e q. cc)
     (λ e q. last_in (w ∷ ws) x (not_first (eqb-false x z e) i) q)
     p
   where
@@ -84,7 +83,7 @@ last_in (z ∷ (w ∷ ws)) x i p =
 
 pub last_none : (l : List ℕ) → first l ≡ None → last l ≡ None
 last_none [] p = refl
-last_none (x ∷ xs) p = absurd (some_none refl p)
+last_none (x ∷ xs) p = cc
 
 -- the corner before corner j of a ring, round the ring
 abbrev pub before_corner : Chart → Ring → ℕ → ℕ

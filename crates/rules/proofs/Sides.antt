@@ -12,18 +12,14 @@ abbrev pub ring_of : Place → Ring
 ring_of (corner r i) = r
 ring_of (crossing x r) = r
 
-abbrev place_no : Place → ℕ
-place_no (corner r i) = 0
-place_no (crossing x r) = 1
-
 module _ (c : Chart) where
   reach-side : (r s : Ring) (i y : ℕ) (o : Option ℕ) → reach c r i o ≡ crossing y s → s ≡ other r
-  reach-side r s i y None h = absurd (let t : ◌≡◌ {A = ℕ} 0 1 = ap place_no h in omega arith)
-  reach-side r s i y (Some x) h = sym (ap ring_of h)
+  reach-side r s i y None h = cc
+  reach-side r s i y (Some x) h = cc
 
   reach-corner : (r s : Ring) (i j : ℕ) (o : Option ℕ) → reach c r i o ≡ corner s j → s ≡ r
-  reach-corner r s i j None h = sym (ap ring_of h)
-  reach-corner r s i j (Some x) h = absurd (let t : ◌≡◌ {A = ℕ} 0 1 = sym (ap place_no h) in omega arith)
+  reach-corner r s i j None h = cc
+  reach-corner r s i j (Some x) h = cc
 
   next_side : (p : Place) (y : ℕ) (s : Ring) → next c p ≡ crossing y s → s ≡ other (ring_of p)
   next_side (corner r i) y s h = reach-side r s i y (first (c.along r i)) h

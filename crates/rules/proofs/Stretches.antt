@@ -41,7 +41,7 @@ module _ (c : Chart) where
   first_in q e (f ∷ l) x s h = subst (λ t. In x t) (sym (crossings-append (e ∷ []) (f ∷ l))) (in_right x (crossings (e ∷ [])) (crossings (f ∷ l)) (first_in h.0 f l x s h.3))
 
   part_here : (q p r : Place) (l : List Event) (y z a b : ℕ) → y ≡ z → q ≡ next c r → Crossing z a b ≡ event_at c r → Leads c r l p → Parted c q (Crossing z a b ∷ l) p y
-  part_here q p (corner s i) l y z a b h n e k = absurd (let t : ◌≡◌ {A = ℕ} 0 1 = cc in omega arith)
+  part_here q p (corner s i) l y z a b h n e k = cc
   part_here q p (crossing w s) l y z a b h n e k =
       let g : w ≡ y = cc in
       record {

@@ -6,13 +6,12 @@ use Rattle.rules.specs.declared.event.Event.{Event}
 use Rattle.rules.specs.Chart.{Chart}
 use Rattle.rules.specs.Rules.{State, Taken, run}
 use Rattle.rules.specs.Strings.{Call, a_begin, a_step, a_run, a_rewind, Scene, run_into, make, play, to_taker, accepted, Makes, of_none, of_one, Holds}
-use Rattle.rules.proofs.Members.{some_none}
 use Rattle.rules.proofs.Calls.{on_runs}
 
 -- one taker replaced
 
 nth_set_same : {S : Type 0} (ts : List S) (j : ℕ) (t u : S) → slice_get ts j ≡ Some t → slice_get (set ts j u) j ≡ Some u
-nth_set_same [] j t u h = absurd (some_none h refl)
+nth_set_same [] j t u h = cc
 nth_set_same (v ∷ ts) zero t u h = refl
 nth_set_same (v ∷ ts) (suc j) t u h = nth_set_same ts j t u h
 

@@ -39,7 +39,7 @@ module _ (c : Chart) (sound : Sound c) (some : eqb c.count 0 ≡ false) where
     where
       go : Starts c past e → (x : ℕ) × (e ≡ event_of c x) × (x < c.count) × (has x (crossings past) ≡ false)
       go (with_crossing x is below free) = (x, is, below, free)
-      go (with_round r _ none _) = absurd (both_ways (eqb c.count 0) some (eq-eqb c.count 0 none))
+      go (with_round r _ none _) = cc (eq-eqb c.count 0 none)
 
   -- at a corner no loop closes
   pub at_corner : (past : List Event) (r : Ring) (i : ℕ) → at c past (corner r i) ≡ Corner r i

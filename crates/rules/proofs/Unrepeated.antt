@@ -43,7 +43,7 @@ pub in_crossings : (x : ℕ) (past : List Event) → In (the_crossing x) (items 
 in_crossings x [] i = absurd i
 in_crossings x (Crossing y a b ∷ es) (inl e) = inl (cc)
 in_crossings x (Crossing y a b ∷ es) (inr i) = inr (in_crossings x es i)
-in_crossings x (Corner r j ∷ es) (inl e) = absurd (let z : ◌≡◌ {A = ℕ} 0 1 = cc in omega arith)
+in_crossings x (Corner r j ∷ es) (inl e) = cc
 in_crossings x (Corner r j ∷ es) (inr i) = in_crossings x es i
 in_crossings x (Closing ∷ es) i = in_crossings x es i
 
@@ -129,7 +129,7 @@ module _ (c : Chart) (sound : Sound c) where
 
   edges_more : (past : List Event) (p : Place) → Edges past → Edges (event_at c p ∷ past)
   unfolding Edges
-  edges_more past (corner r i) h x a b (inl e) = absurd (let z : ◌≡◌ {A = ℕ} 0 1 = cc in omega arith)
+  edges_more past (corner r i) h x a b (inl e) = cc
   edges_more past (corner r i) h x a b (inr i') = h x a b i'
   edges_more past (crossing y r) h x a b (inl e) =
       let q : y ≡ x = cc in
@@ -144,7 +144,7 @@ module _ (c : Chart) (sound : Sound c) where
   edges_true = on_trails c sound Edges (λ x a b i. absurd i) more
     where
       closing : (past : List Event) → Edges past → Edges (Closing ∷ past)
-      closing past h x a b (inl e) = absurd (let z : ◌≡◌ {A = ℕ} 0 1 = cc in omega arith)
+      closing past h x a b (inl e) = cc
       closing past h x a b (inr i) = h x a b i
 
       more : (past : List Event) (e : Event) → Trail c past → Edges past → Came c sound past e → Edges (e ∷ past)
@@ -172,7 +172,7 @@ module _ (c : Chart) (sound : Sound c) where
   -- at a place where no loop closes stands an item that was not handed over
   new_next : (q : Place) (l : List Item) → Led c (item_of q ∷ l) → Once (item_of q ∷ l) → Valid c q → (r : Ring) (i : ℕ) → next c q ≡ corner r i → round_over c i ≡ false → In (the_corner r i) (item_of q ∷ l) → ⊥
   new_next q l h u valid r i e free k =
-      ⊎_elim (both_ways (round_over c i) free)
+      ⊎_elim (λ q. cc)
       (λ j. u.0 (subst (λ y. In y l) (ap item_of (ap (prev c) (sym e) ∙ prev_next c sound q valid)) j))
       (led_before c (the_corner r i) (item_of q) l h k)
 

@@ -1,6 +1,7 @@
 -- The loops of a finished walk are rounds over all crossings, so that those of two finished walks pair off.
 use Rattle.std.proofs.Common.{◌≡◌, ℕ, ◌<◌, List, [], ◌∷◌, ◌++◌, reverse, sym, refl, ap, ◌∙◌, subst, inl, inr, append-nil}
 use mathlib.Core.List.{reverse-cons}
+use Rattle.std.proofs.lemmas.List.Concat.{flat_map-append}
 use Rattle.rules.specs.declared.event.Event.{Event}
 use Rattle.rules.specs.Lists.{In, Once, Paired}
 use Rattle.rules.specs.Chart.{Chart, Sound, Alternate}
@@ -11,11 +12,11 @@ use Rattle.rules.proofs.Trails.{Trail}
 use Rattle.rules.proofs.Unrepeated.{trail_once}
 use Rattle.rules.proofs.AtEnd.{at_rest, none_lost}
 use Rattle.rules.proofs.Loops.{closed, loops_paired}
-use Rattle.rules.proofs.Rounds.{flat, flat_append, Round, Alike, pairs_off, holding, round_from}
+use Rattle.rules.proofs.Rounds.{flat, Round, Alike, pairs_off, holding, round_from}
 use Rattle.rules.proofs.TrailRounds.{crossings_parts, Standing}
 
 flat-reverse : (l : List Event) (ls : List (List Event)) → flat (reverse (l ∷ ls)) ≡ flat (reverse ls) ++ crossings l
-flat-reverse l ls = ap flat (reverse-cons l ls) ∙ flat_append (reverse ls) (l ∷ []) ∙ ap (λ t. flat (reverse ls) ++ t) (append-nil (crossings l))
+flat-reverse l ls = ap flat (reverse-cons l ls) ∙ flat_map-append crossings (reverse ls) (l ∷ []) ∙ ap (λ t. flat (reverse ls) ++ t) (append-nil (crossings l))
 
 pub from_flat-reverse : (x : ℕ) (ls : List (List Event)) → In x (flat (reverse ls)) → In x (flat ls)
 from_flat-reverse x [] i = i

@@ -1,5 +1,7 @@
 -- Loops as full rounds: each is the round of any crossing of it, turned; and two walks that pass the same crossings have loops that pair off.
 use Rattle.std.proofs.Common.{◌≡◌, ℕ, ◌<◌, ◌⊎◌, List, [], ◌∷◌, ◌++◌, sym, refl, ap, ◌∙◌, subst, inl, inr, append_assoc, append-nil}
+use Rattle.std.specs.List.{flat_map}
+use Rattle.std.proofs.lemmas.List.Concat.{flat_map-append}
 use Rattle.rules.specs.declared.event.Event.{Event}
 use Rattle.rules.specs.Lists.{In, Once, Turned, Paired, no_more, pair}
 use Rattle.rules.specs.Chart.{Chart, Sound, Place, crossing, Alternate}
@@ -11,12 +13,7 @@ use Rattle.rules.proofs.Sides.{keeps_own, keeps_is_own, leads_keeps}
 
 -- the crossings of all the loops
 abbrev pub flat : List (List Event) → List ℕ
-flat [] = []
-flat (l ∷ ls) = crossings l ++ flat ls
-
-pub flat_append : (ls ms : List (List Event)) → flat (ls ++ ms) ≡ flat ls ++ flat ms
-flat_append [] ms = refl
-flat_append (l ∷ ls) ms = ap {B = List ℕ} (λ t. crossings l ++ t) (flat_append ls ms) ∙ sym (append_assoc (crossings l) (flat ls) (flat ms))
+flat ls = flat_map crossings ls
 
 pub record Holding (ls : List (List Event)) (x : ℕ) : Type 0 where
   pub before : List (List Event)
@@ -69,16 +66,16 @@ pub record Alike (c : Chart) (ls ms : List (List Event)) : Type 0 where
 
 -- the crossings of the loops with one loop among them, and without it
 flat_with : (b a : List (List Event)) (m : List Event) → flat (b ++ (m ∷ a)) ≡ flat b ++ (crossings m ++ flat a)
-flat_with b a m = flat_append b (m ∷ a)
+flat_with b a m = flat_map-append crossings b (m ∷ a)
 
 without_a_pair : (c : Chart) (l m : List Event) (ls b a : List (List Event)) → Turned l m → Alike c (l ∷ ls) (b ++ (m ∷ a)) → Alike c ls (b ++ a)
 without_a_pair c l m ls b a t k = record {
   rounds = λ n i. k.rounds n (inr i);
   rounds' = λ n i. k.rounds' n (in_more n b (m ∷ []) a i);
   once = once_right (crossings l) (flat ls) k.once;
-  once' = subst Once (sym (flat_append b a)) (once_less (flat b) (crossings m) (flat a) once'');
-  to = λ x i. subst (In x) (sym (flat_append b a)) (in_less x (flat b) (crossings m) (flat a) (not_in_m x i) (subst (In x) (flat_with b a m) (k.to x (in_right x (crossings l) (flat ls) i))));
-  from = λ x i. not_in_l x (subst (In x) (flat_append b a) i) (in_either x (crossings l) (flat ls) (k.from x (subst (In x) (sym (flat_with b a m)) (in_more x (flat b) (crossings m) (flat a) (subst (In x) (flat_append b a) i)))));
+  once' = subst Once (sym (flat_map-append crossings b a)) (once_less (flat b) (crossings m) (flat a) once'');
+  to = λ x i. subst (In x) (sym (flat_map-append crossings b a)) (in_less x (flat b) (crossings m) (flat a) (not_in_m x i) (subst (In x) (flat_with b a m) (k.to x (in_right x (crossings l) (flat ls) i))));
+  from = λ x i. not_in_l x (subst (In x) (flat_map-append crossings b a) i) (in_either x (crossings l) (flat ls) (k.from x (subst (In x) (sym (flat_with b a m)) (in_more x (flat b) (crossings m) (flat a) (subst (In x) (flat_map-append crossings b a) i)))));
 }
   where
     once'' : Once (flat b ++ (crossings m ++ flat a))

@@ -1,5 +1,6 @@
 -- A chart that passes a test, which computes, is sound.
 use Rattle.std.proofs.Common.{◌≡◌, ℕ, ◌<◌, ◌≤◌, Bool, true, not, ◌&&◌, eqb, ltb, List, [], ◌∷◌, sym, ap, ◌∙◌, subst, inl, inr, ⊎_elim}
+use Rattle.std.specs.List.{list_all}
 use Rattle.std.proofs.lemmas.Bool.{eqb-true, ltb-true, and_parts, not-true, cases_lt}
 use Rattle.plane.specs.declared.ring.Ring.{Ring}
 use Rattle.plane.specs.declared.ring.Ring.TheVariants.{One, Two}
@@ -7,15 +8,11 @@ use Rattle.rules.specs.Lists.{In, Once, has, upto}
 use Rattle.rules.specs.Chart.{Chart, Sound}
 use Rattle.rules.proofs.Members.{has_in, not_in, in_upto}
 
--- a test that all of a list pass
-abbrev every : (ℕ → Bool) → List ℕ → Bool
-every test [] = true
-every test (x ∷ xs) = test x && every test xs
-
-every_in : (test : ℕ → Bool) (l : List ℕ) → every test l ≡ true → (x : ℕ) → In x l → test x ≡ true
+-- each of a list passes the test that all of it pass
+every_in : (test : ℕ → Bool) (l : List ℕ) → list_all test l ≡ true → (x : ℕ) → In x l → test x ≡ true
 every_in test [] h x i = absurd i
-every_in test (y ∷ ys) h x (inl e) = ap test e ∙ (and_parts (test y) (every test ys) h).0
-every_in test (y ∷ ys) h x (inr i) = every_in test ys (and_parts (test y) (every test ys) h).1 x i
+every_in test (y ∷ ys) h x (inl e) = ap test e ∙ (and_parts (test y) (list_all test ys) h).0
+every_in test (y ∷ ys) h x (inr i) = every_in test ys (and_parts (test y) (list_all test ys) h).1 x i
 
 -- the test of Once
 abbrev distinct : List ℕ → Bool
@@ -33,7 +30,7 @@ module _ (c : Chart) where
 
   -- all along edge e, and none of them twice
   abbrev edge_sound : Ring → ℕ → Bool
-  edge_sound r e = every (lies_there r e) (c.along r e) && distinct (c.along r e)
+  edge_sound r e = list_all (lies_there r e) (c.along r e) && distinct (c.along r e)
 
   -- a crossing of the chart stands along its edge, and the ring has that edge
   abbrev stands_there : Ring → ℕ → Bool
@@ -41,17 +38,17 @@ module _ (c : Chart) where
 
   -- the test of a ring: it has a corner, all its edges are sound, and all crossings stand there
   abbrev pub ring_sound : Ring → Bool
-  ring_sound r = ltb 0 (c.corners r) && (every (edge_sound r) (upto (c.corners r)) && every (stands_there r) (upto c.count))
+  ring_sound r = ltb 0 (c.corners r) && (list_all (edge_sound r) (upto (c.corners r)) && list_all (stands_there r) (upto c.count))
 
   module _ (r : Ring) (passes : ring_sound r ≡ true) (bare : (e : ℕ) → c.corners r ≤ e → c.along r e ≡ []) where
     some : 0 < c.corners r
     some = ltb-true 0 (c.corners r) (and_parts _ _ passes).0
 
-    edges : every (edge_sound r) (upto (c.corners r)) ≡ true
+    edges : list_all (edge_sound r) (upto (c.corners r)) ≡ true
     edges = (and_parts _ _ (and_parts (ltb 0 (c.corners r)) _ passes).1).0
 
     all : (x : ℕ) → x < c.count → stands_there r x ≡ true
-    all x h = every_in (stands_there r) (upto c.count) (and_parts (every (edge_sound r) (upto (c.corners r))) _ (and_parts (ltb 0 (c.corners r)) _ passes).1).1 x (in_upto c.count x h)
+    all x h = every_in (stands_there r) (upto c.count) (and_parts (list_all (edge_sound r) (upto (c.corners r))) _ (and_parts (ltb 0 (c.corners r)) _ passes).1).1 x (in_upto c.count x h)
 
     on_its_edge : (e x : ℕ) → In x (c.along r e) → (x < c.count) × (c.edge r x ≡ e)
     on_its_edge e x i = ⊎_elim there (λ h. absurd (subst (In x) (bare e h) i)) (cases_lt e (c.corners r))
@@ -68,7 +65,7 @@ module _ (c : Chart) where
         (ltb-true (c.edge r x) (c.corners r) p.0, has_in x (c.along r (c.edge r x)) p.1)
 
     there_once : (e : ℕ) → Once (c.along r e)
-    there_once e = ⊎_elim (λ h. distinct_once (c.along r e) (and_parts (every (lies_there r e) (c.along r e)) _ (every_in (edge_sound r) _ edges e (in_upto (c.corners r) e h))).1) (λ h. subst Once (sym (bare e h)) tt) (cases_lt e (c.corners r))
+    there_once e = ⊎_elim (λ h. distinct_once (c.along r e) (and_parts (list_all (lies_there r e) (c.along r e)) _ (every_in (edge_sound r) _ edges e (in_upto (c.corners r) e h))).1) (λ h. subst Once (sym (bare e h)) tt) (cases_lt e (c.corners r))
 
   pub sound_by_test : ring_sound One ≡ true → ring_sound Two ≡ true → ((r : Ring) (e : ℕ) → c.corners r ≤ e → c.along r e ≡ []) → Sound c
   sound_by_test one two bare = record { some_corner = λ r. some r (passes r) (bare r); on_its_edge = λ r. on_its_edge r (passes r) (bare r); all_there = λ r. all_there r (passes r) (bare r); there_once = λ r. there_once r (passes r) (bare r) }

@@ -11,40 +11,19 @@ use Rattle.takers.specs.Laws.{ListHolds, TallyAdds, accepted}
 -- a rule by a test: what it accepts is the value
 gave : {S : Type 0} (b : Bool) (t u : S) → placed (cond b (Some t) None) ≡ accepts u → u ≡ t
 gave true t u e = cc
-gave false t u e = let z : ◌≡◌ {A = ℕ} 0 1 = cc in absurd (omega arith)
+gave false t u e = cc
 
 pub list_holds : ListHolds
-list_holds room held after [] of_none = ap (λ l. (room, l)) (sym (append-nil held))
+list_holds room held after [] of_none = simp append-nil
 list_holds room held after (e ∷ es) (of_one {u = u} is more) =
     let one = gave (ltb (length held) room) (room, held ++ e ∷ []) u is in
-    list_holds room (held ++ e ∷ []) after es (subst (λ s. Makes listed s es after) one more) ∙ ap (λ l. (room, l)) (append_assoc held (e ∷ []) es)
+    list_holds room (held ++ e ∷ []) after es (rw one at more) ∙ simp append_assoc
 
 pub tally_adds : TallyAdds
-tally_adds t u [] of_none = record { more_loops = omega arith; more_crossings = omega arith; more_corners = omega arith }
-tally_adds t u (Crossing x a b ∷ es) (of_one {u = v} is more) =
-    let one = gave (ltb t.crossings most_counted) (record { loops = t.loops; crossings = t.crossings + 1; corners = t.corners }) v is in
-    let rest = tally_adds v u es more in
-    record {
-      more_loops = omega (arith, rest.more_loops, ap (λ w. w.loops) one);
-      more_crossings = omega (arith, rest.more_crossings, ap (λ w. w.crossings) one);
-      more_corners = omega (arith, rest.more_corners, ap (λ w. w.corners) one);
-    }
-tally_adds t u (Corner r i ∷ es) (of_one {u = v} is more) =
-    let one = gave (ltb t.corners most_counted) (record { loops = t.loops; crossings = t.crossings; corners = t.corners + 1 }) v is in
-    let rest = tally_adds v u es more in
-    record {
-      more_loops = omega (arith, rest.more_loops, ap (λ w. w.loops) one);
-      more_crossings = omega (arith, rest.more_crossings, ap (λ w. w.crossings) one);
-      more_corners = omega (arith, rest.more_corners, ap (λ w. w.corners) one);
-    }
-tally_adds t u (Closing ∷ es) (of_one {u = v} is more) =
-    let one = gave (ltb t.loops most_counted) (record { loops = t.loops + 1; crossings = t.crossings; corners = t.corners }) v is in
-    let rest = tally_adds v u es more in
-    record {
-      more_loops = omega (arith, rest.more_loops, ap (λ w. w.loops) one);
-      more_crossings = omega (arith, rest.more_crossings, ap (λ w. w.crossings) one);
-      more_corners = omega (arith, rest.more_corners, ap (λ w. w.corners) one);
-    }
+tally_adds t u [] of_none = grind arith
+tally_adds t u (Crossing x a b ∷ es) (of_one {u = v} is more) = let rest = tally_adds v u es more in grind arith
+tally_adds t u (Corner r i ∷ es) (of_one {u = v} is more) = let rest = tally_adds v u es more in grind arith
+tally_adds t u (Closing ∷ es) (of_one {u = v} is more) = let rest = tally_adds v u es more in grind arith
 
 module _ {S : Type 0} (rule : S → Event → Taken S) where
   none_at_zero : (s : S) (es : List Event) → accepted (capped rule) (0, s) es ≡ []
@@ -54,9 +33,9 @@ module _ {S : Type 0} (rule : S → Event → Taken S) where
   pub caps_at : (k : ℕ) (s : S) (es : List Event) → accepted (capped rule) (k, s) es ≡ take k (accepted rule s es)
   caps_at zero s es = none_at_zero s es
   caps_at (suc k) s [] = refl
-  caps_at (suc k) s (e ∷ es) = go (rule s e) (λ t. caps_at k t es) (caps_at (suc k) s es)
+  caps_at (suc k) s (e ∷ es) = go (rule s e) refl (λ t. caps_at k t es) (caps_at (suc k) s es)
     where
-      go : (o : Taken S) → ((t : S) → accepted (capped rule) (k, t) es ≡ take k (accepted rule t es)) → accepted (capped rule) (suc k, s) es ≡ take (suc k) (accepted rule s es)
-          → ◌≡◌ {A = List Event} (elim (passed_on k o) [ accepts t ↦ e ∷ accepted (capped rule) t es | refuses why ↦ accepted (capped rule) (suc k, s) es ]) (take {A = Event} (suc k) (elim o [ accepts t ↦ e ∷ accepted rule t es | refuses why ↦ accepted rule s es ]))
-      go (accepts t) on same = ap (λ l. e ∷ l) (on t)
-      go (refuses why) on same = same
+      go : (o : Taken S) → rule s e ≡ o → ((t : S) → accepted (capped rule) (k, t) es ≡ take k (accepted rule t es)) → accepted (capped rule) (suc k, s) es ≡ take (suc k) (accepted rule s es)
+          → accepted (capped rule) (suc k, s) (e ∷ es) ≡ take (suc k) (accepted rule s (e ∷ es))
+      go (accepts t) is on same = rw (is, accepted) (ap (λ l. e ∷ l) (on t))
+      go (refuses why) is on same = rw (is, accepted) same

@@ -30,7 +30,7 @@ module _ (c : Chart) (sound : Sound c) (s : State) (r : Reached c s) (h : Finish
           (omega arith, u.3)
 
       free : (t : State) (e : Event) → Reached c t → due c t ≡ Some e → at_limit c t ≡ false
-      free t e k d = let b = below t e k d in not_at_limit c t (subst (λ p. length p < limit c) (sym b.1) b.0)
+      free t e k d = let b = below t e k d in not_at_limit c t (rw b.1 b.0)
 
       less : (t : State) (e : Event) → Reached c t → due c t ≡ Some e → limit c - length (e ∷ t.past) < limit c - length t.past
       less t e k d = let b = (below t e k d).0 in omega arith

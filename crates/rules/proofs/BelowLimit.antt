@@ -25,7 +25,7 @@ within_bounds c (Corner r i ∷ es) w = let k = within_bounds c es w.1 in let d 
 within_bounds c (Closing ∷ es) w = let k = within_bounds c es w.1 in (omega arith, λ l. go l k.0 k.1)
   where
     go : (l : List Event) → length (under_way es) ≤ limit c → ((l : List Event) → In l (closed es) → length l < limit c) → (l ≡ under_way es) ⊎ In l (closed es) → length l < limit c
-    go l h f (inl e) = let d = eqb-false (length (under_way es)) (limit c) w.0 in subst (λ t. length t < limit c) (sym e) (omega arith)
+    go l h f (inl e) = let d = eqb-false (length (under_way es)) (limit c) w.0 in rw e (omega arith)
     go l h f (inr i) = f l i
 
 pub turned-length : (l m : List Event) → Turned l m → length l ≡ length m
@@ -48,7 +48,7 @@ module _ (c : Chart) where
 
   -- two stretches from one place agree as far as both go
   pub forth_alike : (q q' p : Place) (l m : List Event) → Leads c q l p → Leads c q' m p → Extends c q l q' m ⊎ Extends c q' m q l
-  forth_alike q q' p [] m h k = inr (m, sym (append-nil m), subst (λ z. Leads c q' m z) (sym h) k)
+  forth_alike q q' p [] m h k = inr (m, sym (append-nil m), rw h k)
   forth_alike q q' p (e ∷ l) m h k = go (forth_alike h.0 q' p l m h.3 k)
     where
       go : Extends c h.0 l q' m ⊎ Extends c q' m h.0 l → Extends c q (e ∷ l) q' m ⊎ Extends c q' m q (e ∷ l)
@@ -56,7 +56,7 @@ module _ (c : Chart) where
       go (inr ([], a, f)) = inl (e ∷ [], ap {B = List Event} (λ r. e ∷ r) (sym a), (h.0, h.1, h.2, sym f))
       go (inr (g ∷ t, a, f)) =
           let j = less_first q' h.0 g t f in
-          inr (j.0, a ∙ ap (λ r. r ++ l) j.1 ∙ append_assoc j.0 (event_at c h.0 ∷ []) l ∙ ap (λ r. j.0 ++ (r ∷ l)) (sym h.2), subst (λ z. Leads c q' j.0 z) (sym h.1) j.2)
+          inr (j.0, a ∙ ap (λ r. r ++ l) j.1 ∙ append_assoc j.0 (event_at c h.0 ∷ []) l ∙ ap (λ r. j.0 ++ (r ∷ l)) (sym h.2), rw h.1 j.2)
 
   -- a stretch from a crossing with nothing twice is no longer than its round
   pub not_past_round : (q : Place) (x : ℕ) (s : Ring) (u m : List Event) → Leads c q u (crossing x s) → Leads c (crossing x s) m (crossing x s) → In x (crossings m) → Once (crossings u) → length u ≤ length m
@@ -78,7 +78,7 @@ module _ (c : Chart) (sound : Sound c) (alt : Alternate c) where
       let i : In g.loop (closed s.past) = subst (In g.loop) (sym g.is) (in_right g.loop g.before (g.loop ∷ g.behind_it) (inl refl)) in
       let r = round_from c sound alt x g.loop (k.rounds g.loop i) g.has_it in
       let b : length g.loop < limit c = (within_bounds c s.past w).1 g.loop i in
-      (r.0, r.3, turned_in x g.loop r.0 (turned_back r.0 g.loop r.2) g.has_it, subst (λ n. n < limit c) (sym (turned-length r.0 g.loop r.2)) b)
+      (r.0, r.3, turned_in x g.loop r.0 (turned_back r.0 g.loop r.2) g.has_it, rw (turned-length r.0 g.loop r.2) b)
 
 pub below_limit : (c : Chart) → ((x : ℕ) → x < c.count → Short c x) → (past : List Event) → Once (crossings past) → Standing c past → length (under_way past) < limit c
 below_limit c short past once k = go (under_way past) k.under (once_left (crossings (under_way past)) (flat (closed past)) (subst Once (crossings_parts past) once))

@@ -42,7 +42,7 @@ module _ (c : Chart) (sound : Sound c) (alt : Alternate c) where
       ((l : List Event) → In l ls → Round c l) → Once (crossings u ++ flat ls) → In y (crossings u ++ flat ls) → Leads c (own c x) u (own c x)
   closes_own x y s u ls v i k rs o iy =
       let g = leads_keeps c sound alt (crossing y s) (own c x) u (keeps_own c x v) k in
-      let k' : Leads c (own c y) u (own c x) = subst (λ z. Leads c z u (own c x)) (keeps_is_own c y s g) k in
+      let k' : Leads c (own c y) u (own c x) = rw (← keeps_is_own c y s g) k in
       go g.0 k' (in_either y (crossings u) (flat ls) iy)
     where
       go : y < c.count → Leads c (own c y) u (own c x) → In y (crossings u) ⊎ In y (flat ls) → Leads c (own c x) u (own c x)

@@ -59,11 +59,11 @@ crossings_at c (crossing x r) past = omega arith
 
 module _ (c : Chart) (sound : Sound c) where
   pub few_crossings : {past : List Event} → Trail c past → length (crossings past) ≤ c.count
-  few_crossings {past} t = subst (λ n. length (crossings past) ≤ n) (length-upto c.count)
+  few_crossings {past} t = rw (← length-upto c.count)
       (once_fits (crossings past) (upto c.count) (trail_once c sound t) (λ x i. in_upto c.count x (known-crossing c sound t x i)))
 
   pub few_corners : {past : List Event} → Trail c past → length (corners_of past) ≤ c.corners One + c.corners Two
-  few_corners {past} t = subst (λ n. length (corners_of past) ≤ n) (length-all_corners c)
+  few_corners {past} t = rw (← length-all_corners c)
       (once_fits (corners_of past) (all_corners c) (trail_once_corners c sound t) (λ p i. in_all_corners c p.0 p.1 (known-corner c sound t p.0 p.1 i)))
 
   pub few_items : {past : List Event} → Trail c past → length (items past) ≤ c.count + c.corners One + c.corners Two
@@ -76,7 +76,7 @@ module _ (c : Chart) (sound : Sound c) where
   begun_more : (past : List Event) (e : Event) → MoreCrossings past → under_way past ≡ [] → Starts c past e → MoreCrossings (e ∷ past)
   unfolding MoreCrossings
   begun_more past e h w (with_crossing x is _ _) = subst MoreCrossings (ap (λ f. f ∷ past) (sym is)) (omega (arith, ap going w))
-  begun_more past e h w (with_round r is _ none) = subst MoreCrossings (ap (λ f. f ∷ past) (sym is)) (subst (λ p. MoreCrossings (Corner r 0 ∷ p)) (sym none) (omega arith))
+  begun_more past e h w (with_round r is _ none) = subst MoreCrossings (ap (λ f. f ∷ past) (sym is)) (rw none (omega arith))
 
   went_more : (past : List Event) (e : Event) → Trail c past → MoreCrossings past → Came c sound past e → MoreCrossings (e ∷ past)
   unfolding MoreCrossings
@@ -120,7 +120,7 @@ module _ (c : Chart) (sound : Sound c) where
       on_step c s (λ r. r.0 ≡ gave e → counted (totals s.past) e ≡ Some (totals (e ∷ s.past)))
       (λ _ q. cc)
       (λ _ q. cc)
-      (λ f _ d q. let is : f ≡ e = cc in subst (λ g. counted (totals s.past) g ≡ Some (totals (g ∷ s.past))) is (counted_one xs cs f s.past (handed_traced c s f h d).trail))
+      (λ f _ d q. let is : f ≡ e = cc in rw (← is) (counted_one xs cs f s.past (handed_traced c s f h d).trail))
 
   pub counted_at : (s : State) → Reached c s → Counted c s
   counted_at s r = let h = reached_traced c s r in record {

@@ -40,7 +40,7 @@ module _ (c : Chart) (sound : Sound c) {S : Type 0} (rule : S → Event → Take
         go : (o : Option Event) → due c w.walk ≡ o → due c w.walk ≡ None
         go None d = d
         go (Some e) d = absurd (let k = less w.walk e r d in omega arith)
-    finishes (a_begin x ∷ ks) m w b r h = finishes ks m (make c rule w (a_begin x)).1 b (by_begin r x) (subst (λ p. left p ≤ m) (sym (begin_past c w.walk x)) h)
+    finishes (a_begin x ∷ ks) m w b r h = finishes ks m (make c rule w (a_begin x)).1 b (by_begin r x) (rw (begin_past c w.walk x) h)
     finishes (a_step ∷ ks) m w b r h = go (finishes ks b.0 (make c rule w a_step).1 b.2 (by_step r)) (due c w.walk) refl
       where
         go : (left (step c w.walk).1.past ≤ b.0 → Finished c (play c rule w (a_step ∷ ks)).1.walk) → (o : Option Event) → due c w.walk ≡ o → Finished c (play c rule w (a_step ∷ ks)).1.walk
@@ -48,7 +48,7 @@ module _ (c : Chart) (sound : Sound c) {S : Type 0} (rule : S → Event → Take
         go f (Some e) d =
             let k = less w.walk e r d in
             let z = b.1 in
-            f (subst (λ (q : Answer × State). left q.1.past ≤ b.0) (sym (step_on c w.walk e (free w.walk e r d) d)) (omega arith))
+            f (rw (step_on c w.walk e (free w.walk e r d) d) (omega arith))
     finishes (a_run k j ∷ ks) m w b r h = elim b [ ]
     finishes (a_rewind ∷ ks) m w b r h = elim b [ ]
 

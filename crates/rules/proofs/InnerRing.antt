@@ -101,7 +101,7 @@ module _ (c : Chart) (sound : Sound c) (none : c.count ≡ 0) where
 
   more_past : (past : List Event) (o : Option ℕ) (e : Event) → due c (record { past = past; chosen = o }) ≡ Some e → RoundSoFar past → RoundSoFar (e ∷ past)
   more_past past o e d (not_begun is) =
-      subst (λ p. RoundSoFar (e ∷ p)) (sym is)
+      rw is
       (begin_round c.inner e refl (sym (first_is [] o) ∙ subst (λ p. due c (record { past = p; chosen = o }) ≡ Some e) is d))
   more_past past o e d (amid r k i h is) =
       let q = sym (amid_is r k o h) ∙ subst (λ p. due c (record { past = p; chosen = o }) ≡ Some e) is d in
@@ -119,11 +119,11 @@ module _ (c : Chart) (sound : Sound c) (none : c.count ≡ 0) where
     where
       first : (i : Option Ring) → c.inner ≡ i → round_of i [] ≡ Some e → s.past ≡ [] → (r : Ring) × (c.inner ≡ Some r) × (length s.past ≤ c.corners r) × (under_way s.past ≡ s.past)
       first None _ q is = cc
-      first (Some r) i q is = (r, i, subst (λ p. length p ≤ c.corners r) (sym is) (omega arith), subst (λ p. under_way p ≡ p) (sym is) refl)
+      first (Some r) i q is = (r, i, rw is (omega arith), rw is refl)
 
       go : RoundSoFar s.past → (r : Ring) × (c.inner ≡ Some r) × (length s.past ≤ c.corners r) × (under_way s.past ≡ s.past)
       go (not_begun is) = first c.inner refl (sym (first_is [] s.chosen) ∙ subst (λ p. due c (record { past = p; chosen = s.chosen }) ≡ Some e) is d) is
-      go (amid r k i h is) = (r, i, (let n = ap length is ∙ back_length r (suc k) in omega arith), subst (λ p. under_way p ≡ p) (sym is) (back_under_way r (suc k)))
+      go (amid r k i h is) = (r, i, (let n = ap length is ∙ back_length r (suc k) in omega arith), rw is (back_under_way r (suc k)))
       go (over r i is) = cc (none_due s r i is)
 
   no_inner : (i : Option Ring) → c.inner ≡ i → round_of i [] ≡ None → [] ≡ inner_loops c i

@@ -66,5 +66,5 @@ paired-reverse ls ms (pair {l = l} {m = m} {ls = ls'} b a t p) =
 
 pub loops_paired : (s t : State) → Paired (reverse (closed s.past)) (reverse (closed t.past)) → Paired (loops s) (loops t)
 loops_paired s t h =
-    subst (λ z. Paired z (loops t)) (sym (loops_closed s))
+    rw (loops_closed s)
     (subst (Paired (map reverse (reverse (closed s.past)))) (sym (loops_closed t)) (paired-reverse (reverse (closed s.past)) (reverse (closed t.past)) h))

@@ -54,7 +54,7 @@ module _ {A : Type 0} where
 
   pub once_apart : (x : A) (l m : List A) → Once (l ++ m) → In x l → In x m → ⊥
   once_apart x [] m o i j = absurd i
-  once_apart x (y ∷ l) m o (inl p) j = o.0 (in_right y l m (subst (λ z. In z m) p j))
+  once_apart x (y ∷ l) m o (inl p) j = o.0 (in_right y l m (rw (← p) j))
   once_apart x (y ∷ l) m o (inr i) j = once_apart x l m o.1 i j
 
   pub once_both : (l m : List A) → Once l → Once m → ((x : A) → In x l → In x m → ⊥) → Once (l ++ m)
@@ -102,13 +102,13 @@ module _ {A : Type 0} where
   once_fits [] m u f = omega arith
   once_fits (x ∷ xs) m u f =
       let i = f x (inl refl) in
-      let h = once_fits xs (without x m i) u.1 (λ z j. ⊎_elim (λ e. absurd (u.0 (subst (λ w. In w xs) e j))) (λ k. k) (in_without x m i z (f z (inr j)))) in
+      let h = once_fits xs (without x m i) u.1 (λ z j. ⊎_elim (λ e. absurd (u.0 (rw (← e) j))) (λ k. k) (in_without x m i z (f z (inr j)))) in
       let n = length_without x m i in
       omega arith
 
   pub in_joined : (f : ℕ → List A) (x : A) (y : ℕ) (l : List ℕ) → In y l → In x (f y) → In x (flat_map f l)
   in_joined f x y [] j i = absurd j
-  in_joined f x y (z ∷ zs) (inl e) i = in_left x (f z) (flat_map f zs) (subst (λ w. In x (f w)) e i)
+  in_joined f x y (z ∷ zs) (inl e) i = in_left x (f z) (flat_map f zs) (rw (← e) i)
   in_joined f x y (z ∷ zs) (inr j) i = in_right x (f z) (flat_map f zs) (in_joined f x y zs j i)
 
   pub from_joined : (f : ℕ → List A) (x : A) (l : List ℕ) → In x (flat_map f l) → (y : ℕ) × In x (f y)
@@ -141,13 +141,13 @@ first_but_some others [] x p = cc
 first_but_some others (y ∷ ys) x p =
     cond_both (has y others) (first_but others ys) (Some y) (λ o. o ≡ Some x → In x (y ∷ ys) × (has x others ≡ false))
     (λ _ q. let r = first_but_some others ys x q in (inr r.0, r.1))
-    (λ e q. let s : y ≡ x = cc in (inl (sym s), subst (λ z. has z others ≡ false) s e))
+    (λ e q. let s : y ≡ x = cc in (inl (sym s), rw (← s) e))
     p
 
 pub first_but_none : (others l : List ℕ) → first_but others l ≡ None → (x : ℕ) → In x l → In x others
 first_but_none others [] p x i = absurd i
 first_but_none others (y ∷ ys) p x i =
     cond_both (has y others) (first_but others ys) (Some y) (λ o. o ≡ None → In x others)
-    (λ e q. ⊎_elim (λ d. subst (λ z. In z others) (sym d) (has_in y others e)) (first_but_none others ys q x) i)
+    (λ e q. ⊎_elim (λ d. rw d (has_in y others e)) (first_but_none others ys q x) i)
     (λ _ q. cc)
     p

@@ -65,7 +65,7 @@ module _ (c : Chart) (sound : Sound c) where
   in_order_all x h = let k = sound.all_there One x h in in_joined (c.along One) x (c.edge One x) (upto (c.corners One)) (in_upto (c.corners One) (c.edge One x) k.0) k.1
 
   free_choice : (past : List Event) (o : Option ℕ) (x : ℕ) → Allowed c past o → or_else o (first_but (crossings past) (in_order c)) ≡ Some x → (x < c.count) × (has x (crossings past) ≡ false)
-  free_choice past (Some y) x al d = let e : y ≡ x = cc in subst (λ z. (z < c.count) × (has z (crossings past) ≡ false)) e (al.0, al.1)
+  free_choice past (Some y) x al d = let e : y ≡ x = cc in rw (← e) (al.0, al.1)
   free_choice past None x al d = let n = first_but_some (crossings past) (in_order c) x d in (in_order_below x n.0, n.1)
 
   pub starts : (past : List Event) (o : Option ℕ) (e : Event) → Allowed c past o → first_due c (record { past = past; chosen = o }) ≡ Some e → Starts c past e
@@ -87,12 +87,12 @@ module _ (c : Chart) (sound : Sound c) where
   put p past u w h = subst Stood (sym (under_way_more c p past ∙ ap (λ v. event_at c p ∷ v) w)) h
 
   stood_first : (past : List Event) (e : Event) → under_way past ≡ [] → Starts c past e → Stood (under_way (e ∷ past))
-  stood_first past e w (with_crossing x is below _) = subst (λ f. Stood (under_way (f ∷ past))) (sym is) (put (crossing x (c.leaving x)) past [] w (refl, below))
-  stood_first past e w (with_round r is _ _) = subst (λ f. Stood (under_way (f ∷ past))) (sym is) (put (corner r 0) past [] w (refl, sound.some_corner r))
+  stood_first past e w (with_crossing x is below _) = rw is (put (crossing x (c.leaving x)) past [] w (refl, below))
+  stood_first past e w (with_round r is _ _) = rw is (put (corner r 0) past [] w (refl, sound.some_corner r))
 
   stood_next : (past : List Event) (e f : Event) (us : List Event) → under_way past ≡ f ∷ us → Stood (f ∷ us) → HandedAt c past (due_place c f us) e → Stood (under_way (e ∷ past))
-  stood_next past e f us w h (closes is) = subst (λ g. Stood (under_way (g ∷ past))) (sym is) tt
-  stood_next past e f us w h (goes_on is _) = subst (λ g. Stood (under_way (g ∷ past))) (sym is) (put (due_place c f us) past (f ∷ us) w (refl, valid_due f us h))
+  stood_next past e f us w h (closes is) = rw is tt
+  stood_next past e f us w h (goes_on is _) = rw is (put (due_place c f us) past (f ∷ us) w (refl, valid_due f us h))
 
   stood_more : (past : List Event) (o : Option ℕ) (e : Event) (u : List Event) → under_way past ≡ u → Stood u → Allowed c past o → due_in c (record { past = past; chosen = o }) u ≡ Some e → Stood (under_way (e ∷ past))
   stood_more past o e [] w h al d = stood_first past e w (starts past o e al d)

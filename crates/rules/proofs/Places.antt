@@ -63,7 +63,7 @@ before_behind (z ∷ []) x y u p = absurd (in_tail z [] x y p)
 before_behind (z ∷ (w ∷ ws)) x y u p =
     cond_both (eqb x z) (Some w) (behind x (w ∷ ws)) (λ o. o ≡ Some y → before y (z ∷ (w ∷ ws)) ≡ Some x)
     (λ e q. cond-true (eqb y w) (Some z) (before y (w ∷ ws)) (eq-eqb y w (cc)) ∙ ap Some (sym (eqb-true x z e)))
-    (λ e q. cond-false (eqb y w) (Some z) (before y (w ∷ ws)) (ne_eqb y w (λ s. u.1.0 (subst (λ v. In v ws) s (in_tail w ws x y q)))) ∙ before_behind (w ∷ ws) x y u.1 q)
+    (λ e q. cond-false (eqb y w) (Some z) (before y (w ∷ ws)) (ne_eqb y w (λ s. u.1.0 (rw (← s) (in_tail w ws x y q)))) ∙ before_behind (w ∷ ws) x y u.1 q)
     p
 
 -- what has nothing behind it stands last

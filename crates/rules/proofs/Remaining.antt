@@ -61,15 +61,15 @@ module _ (c : Chart) (sound : Sound c) (some : eqb c.count 0 ≡ false) where
       omega arith
 
   lighter_at : (past : List Event) (f : Event) (fs : List Event) (q : Place) → under_way past ≡ f ∷ fs → Valid c q → length (under_way past) < limit c → weight c (at c past q ∷ past) < weight c past
-  lighter_at past f fs (corner r i) u v b = subst (λ e. weight c (e ∷ past) < weight c past) (sym (at_corner c sound some past r i)) (lighter_corner past r i f fs u b)
+  lighter_at past f fs (corner r i) u v b = rw (at_corner c sound some past r i) (lighter_corner past r i f fs u b)
   lighter_at past f fs (crossing y s) u v b = cond_both (has y (crossings past)) Closing (event_of c y) (λ e. weight c (e ∷ past) < weight c past) (λ _. lighter_closing past f fs u b) (λ h. lighter_crossing past y v h b)
 
   pub lighter : (past : List Event) (o : Option ℕ) (e : Event) → Allowed c past o → Standing c past → length (under_way past) < limit c → due c (record { past = past; chosen = o }) ≡ Some e → weight c (e ∷ past) < weight c past
   lighter past o e a k b h = go (under_way past) refl h
     where
       go : (u : List Event) → under_way past ≡ u → due_in c (record { past = past; chosen = o }) u ≡ Some e → weight c (e ∷ past) < weight c past
-      go [] u d = let j = first_fresh c sound some past o e a d in subst (λ t. weight c (t ∷ past) < weight c past) (sym j.1) (lighter_crossing past j.0 j.2 j.3 b)
+      go [] u d = let j = first_fresh c sound some past o e a d in rw j.1 (lighter_crossing past j.0 j.2 j.3 b)
       go (f ∷ fs) u d =
           let j : at c past (due_place c f fs) ≡ e = cc in
           let w : Under c (f ∷ fs) = subst (Under c) u k.under in
-          subst (λ t. weight c (t ∷ past) < weight c past) j (lighter_at past f fs (due_place c f fs) u (leads_valid c sound (due_place c f fs) (own c w.0) (f ∷ fs) w.1 w.2) b)
+          rw (← j) (lighter_at past f fs (due_place c f fs) u (leads_valid c sound (due_place c f fs) (own c w.0) (f ∷ fs) w.1 w.2) b)

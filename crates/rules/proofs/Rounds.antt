@@ -32,7 +32,7 @@ holding x (l ∷ ls) i = go (holding x ls) (in_either x (crossings l) (flat ls) 
 
 pub in_flat : (x : ℕ) (l : List Event) (ls : List (List Event)) → In l ls → In x (crossings l) → In x (flat ls)
 in_flat x l [] h i = elim h [ ]
-in_flat x l (m ∷ ls) (inl p) i = in_left x (crossings m) (flat ls) (subst (λ t. In x (crossings t)) p i)
+in_flat x l (m ∷ ls) (inl p) i = in_left x (crossings m) (flat ls) (rw (← p) i)
 in_flat x l (m ∷ ls) (inr h) i = in_right x (crossings m) (flat ls) (in_flat x l ls h i)
 
 pub turned_in : (x : ℕ) (l m : List Event) → Turned l m → In x (crossings l) → In x (crossings m)
@@ -96,7 +96,7 @@ module _ (c : Chart) (sound : Sound c) (alt : Alternate c) where
       let k = parted c q (own c x) l y h i in
       let g = leads_keeps c sound alt (crossing y k.side) (own c x) k.older (keeps_own c x v) k.to_it in
       let e = keeps_is_own c y k.side g in
-      (k.newer, k.older, k.is, g.0, subst (λ z. Leads c q k.newer z) e k.from_it, subst (λ z. Leads c z k.older (own c x)) e k.to_it, k.has_it)
+      (k.newer, k.older, k.is, g.0, rw (← e) k.from_it, rw (← e) k.to_it, k.has_it)
 
   -- a round, read from another of its crossings on
   pub round_from : (y : ℕ) (l : List Event) → Round c l → In y (crossings l) → (m : List Event) × (y < c.count) × Turned m l × Leads c (own c y) m (own c y)
@@ -114,8 +114,8 @@ module _ (c : Chart) (sound : Sound c) (alt : Alternate c) where
   one_round x l m v o o' i i' h k = go (back_alike c sound (own c x) (own c x) (own c x) l m v v h k)
     where
       go : ComesBefore c (own c x) l (own c x) m ⊎ ComesBefore c (own c x) m (own c x) l → l ≡ m
-      go (inl (t, e, f)) = e ∙ ap (λ s. m ++ s) (no_rest x m t i' (subst (λ s. Once (crossings s)) e o) f) ∙ append-nil m
-      go (inr (t, e, f)) = sym (e ∙ ap (λ s. l ++ s) (no_rest x l t i (subst (λ s. Once (crossings s)) e o') f) ∙ append-nil l)
+      go (inl (t, e, f)) = e ∙ ap (λ s. m ++ s) (no_rest x m t i' (rw (← e) o) f) ∙ append-nil m
+      go (inr (t, e, f)) = sym (e ∙ ap (λ s. l ++ s) (no_rest x l t i (rw (← e) o') f) ∙ append-nil l)
 
   pub turns_to : (l m : List Event) (r : Round c l) → Round c m → Once (crossings l) → Once (crossings m) → In r.start_at (crossings m) → Turned l m
   turns_to l m r r' o o' i =
@@ -124,7 +124,7 @@ module _ (c : Chart) (sound : Sound c) (alt : Alternate c) where
       let i' : In r.start_at (crossings n) = turned_in r.start_at m n (turned_back n m k.2) i in
       let o'' : Once (crossings n) = turned_once m n (turned_back n m k.2) o' in
       let e : l ≡ n = one_round r.start_at l n r.known o o'' r.begins i' r.goes_round k.3 in
-      subst (λ z. Turned z m) (sym e) k.2
+      rw e k.2
 
   pub pairs_off : (ls ms : List (List Event)) → Alike c ls ms → Paired ls ms
   pairs_off [] [] k = no_more

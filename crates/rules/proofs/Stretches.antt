@@ -32,13 +32,13 @@ pub record Parted (c : Chart) (q : Place) (l : List Event) (p : Place) (y : ℕ)
 
 module _ (c : Chart) where
   pub leads_on : (q r p : Place) (l m : List Event) → Leads c q l r → Leads c r m p → Leads c q (l ++ m) p
-  leads_on q r p [] m h k = subst (λ z. Leads c z m p) (sym h) k
+  leads_on q r p [] m h k = rw h k
   leads_on q r p (e ∷ l) m h k = (h.0, h.1, h.2, leads_on h.0 r p l m h.3 k)
 
   -- the oldest event is what stands at the first place
   pub first_in : (q : Place) (e : Event) (l : List Event) (x : ℕ) (s : Ring) → Leads c q (e ∷ l) (crossing x s) → In x (crossings (e ∷ l))
-  first_in q e [] x s h = subst (λ z. In x (crossings (z ∷ []))) (sym (h.2 ∙ ap (event_at c) h.3)) (inl refl)
-  first_in q e (f ∷ l) x s h = subst (λ t. In x t) (sym (crossings-append (e ∷ []) (f ∷ l))) (in_right x (crossings (e ∷ [])) (crossings (f ∷ l)) (first_in h.0 f l x s h.3))
+  first_in q e [] x s h = rw (h.2 ∙ ap (event_at c) h.3) (inl refl)
+  first_in q e (f ∷ l) x s h = rw (crossings-append (e ∷ []) (f ∷ l)) (in_right x (crossings (e ∷ [])) (crossings (f ∷ l)) (first_in h.0 f l x s h.3))
 
   part_here : (q p r : Place) (l : List Event) (y z a b : ℕ) → y ≡ z → q ≡ next c r → Crossing z a b ≡ event_at c r → Leads c r l p → Parted c q (Crossing z a b ∷ l) p y
   part_here q p (corner s i) l y z a b h n e k = cc
@@ -49,7 +49,7 @@ module _ (c : Chart) where
         older = l;
         side = s;
         is = refl;
-        to_it = subst (λ t. Leads c (crossing t s) l p) g k;
+        to_it = rw (← g) k;
         from_it = (crossing w s, n, e, ap (λ t. crossing t s) g);
         has_it = inl h;
       }
@@ -64,7 +64,7 @@ module _ (c : Chart) where
         is = ap {B = List Event} (λ t. e ∷ t) k.is;
         to_it = k.to_it;
         from_it = (h.0, h.1, h.2, k.from_it);
-        has_it = subst (λ t. In y t) (sym (crossings-append (e ∷ []) k.newer)) (in_right y (crossings (e ∷ [])) (crossings k.newer) k.has_it);
+        has_it = rw (crossings-append (e ∷ []) k.newer) (in_right y (crossings (e ∷ [])) (crossings k.newer) k.has_it);
       }
 
   pub parted : (q p : Place) (l : List Event) (y : ℕ) → Leads c q l p → In y (crossings l) → Parted c q l p y
@@ -84,14 +84,14 @@ module _ (c : Chart) (sound : Sound c) where
   leads_valid q p (e ∷ l) v h = subst (Valid c) (sym h.1) (valid_next c sound h.0 (leads_valid h.0 p l v h.3))
 
   pub back_alike : (q p p' : Place) (l m : List Event) → Valid c p → Valid c p' → Leads c q l p → Leads c q m p' → ComesBefore c p l p' m ⊎ ComesBefore c p' m p l
-  back_alike q p p' l [] v v' h k = inl (l, refl, subst (λ z. Leads c z l p) k h)
-  back_alike q p p' [] (f ∷ m) v v' h k = inr (f ∷ m, refl, subst (λ z. Leads c z (f ∷ m) p') h k)
+  back_alike q p p' l [] v v' h k = inl (l, refl, rw (← k) h)
+  back_alike q p p' [] (f ∷ m) v v' h k = inr (f ∷ m, refl, rw (← h) k)
   back_alike q p p' (e ∷ l) (f ∷ m) v v' h k =
       let w = leads_valid h.0 p l v h.3 in
       let w' = leads_valid k.0 p' m v' k.3 in
       let g : h.0 ≡ k.0 = next_injective c sound h.0 k.0 w w' (sym h.1 ∙ k.1) in
       let ef : e ≡ f = h.2 ∙ ap (event_at c) g ∙ sym k.2 in
-      go ef (back_alike k.0 p p' l m v v' (subst (λ z. Leads c z l p) g h.3) k.3)
+      go ef (back_alike k.0 p p' l m v v' (rw (← g) h.3) k.3)
     where
       go : e ≡ f → ComesBefore c p l p' m ⊎ ComesBefore c p' m p l → ComesBefore c p (e ∷ l) p' (f ∷ m) ⊎ ComesBefore c p' (f ∷ m) p (e ∷ l)
       go ef (inl x) = inl (x.0, (λ i. ef i ∷ x.1 i), x.2)

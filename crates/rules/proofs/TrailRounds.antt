@@ -52,19 +52,19 @@ module _ (c : Chart) (sound : Sound c) (some : eqb c.count 0 ≡ false) where
   stands_begun : (past : List Event) (x : ℕ) → under_way past ≡ [] → x < c.count → Standing c past → Standing c (event_of c x ∷ past)
   stands_begun past x u v k = record {
     rounds = k.rounds;
-    under = subst (λ t. Under c (event_of c x ∷ t)) (sym u) (x, v, (own c x, refl, refl, refl));
+    under = rw u (x, v, (own c x, refl, refl, refl));
   }
 
   stands_crossing : (past : List Event) (f : Event) (fs : List Event) (y : ℕ) (s : Ring) → under_way past ≡ f ∷ fs → due_place c f fs ≡ crossing y s → Standing c past → Standing c (event_of c y ∷ past)
   stands_crossing past f fs y s u d k = record {
     rounds = k.rounds;
-    under = subst (λ t. Under c (event_of c y ∷ t)) (sym u) (under_more (event_of c y) f fs (subst (Under c) u k.under) (sym (ap (event_at c) d)));
+    under = rw u (under_more (event_of c y) f fs (subst (Under c) u k.under) (sym (ap (event_at c) d)));
   }
 
   stands_corner : (past : List Event) (f : Event) (fs : List Event) (r : Ring) (i : ℕ) → under_way past ≡ f ∷ fs → due_place c f fs ≡ corner r i → Standing c past → Standing c (Corner r i ∷ past)
   stands_corner past f fs r i u d k = record {
     rounds = k.rounds;
-    under = subst (λ t. Under c (Corner r i ∷ t)) (sym u) (under_more (Corner r i) f fs (subst (Under c) u k.under) (sym (ap (event_at c) d)));
+    under = rw u (under_more (Corner r i) f fs (subst (Under c) u k.under) (sym (ap (event_at c) d)));
   }
 
   module _ (alt : Alternate c) where
@@ -83,7 +83,7 @@ module _ (c : Chart) (sound : Sound c) (some : eqb c.count 0 ≡ false) where
               start_at = w.0;
               known = w.1;
               begins = i;
-              goes_round = closes_own c sound alt w.0 y s (f ∷ fs) (closed past) w.1 i (subst (λ z. Leads c z (f ∷ fs) (own c w.0)) d w.2) k.rounds (subst Once p once) (subst (In y) p (has_in y (crossings past) h));
+              goes_round = closes_own c sound alt w.0 y s (f ∷ fs) (closed past) w.1 i (rw (← d) w.2) k.rounds (subst Once p once) (subst (In y) p (has_in y (crossings past) h));
             }
 
         go : (l : List Event) → (l ≡ under_way past) ⊎ In l (closed past) → Round c l
@@ -91,7 +91,7 @@ module _ (c : Chart) (sound : Sound c) (some : eqb c.count 0 ≡ false) where
         go l (inr i) = k.rounds l i
 
     stands_at : (past : List Event) (f : Event) (fs : List Event) (q : Place) → under_way past ≡ f ∷ fs → due_place c f fs ≡ q → Once (crossings past) → Standing c past → Standing c (at c past q ∷ past)
-    stands_at past f fs (corner r i) u d _ k = subst (λ e. Standing c (e ∷ past)) (sym (at_corner past r i)) (stands_corner past f fs r i u d k)
+    stands_at past f fs (corner r i) u d _ k = rw (at_corner past r i) (stands_corner past f fs r i u d k)
     stands_at past f fs (crossing y s) u d once k = go (has y (crossings past)) refl
       where
         go : (b : Bool) → has y (crossings past) ≡ b → Standing c (cond b Closing (event_of c y) ∷ past)
@@ -102,8 +102,8 @@ module _ (c : Chart) (sound : Sound c) (some : eqb c.count 0 ≡ false) where
     stands_on past o e a h once k = go (under_way past) refl h
       where
         go : (u : List Event) → under_way past ≡ u → due_in c (record { past = past; chosen = o }) u ≡ Some e → Standing c (e ∷ past)
-        go [] u d = let j = first_fresh past o e a d in subst (λ t. Standing c (t ∷ past)) (sym j.1) (stands_begun past j.0 u j.2 k)
-        go (f ∷ fs) u d = let j : at c past (due_place c f fs) ≡ e = cc in subst (λ t. Standing c (t ∷ past)) j (stands_at past f fs (due_place c f fs) u refl once k)
+        go [] u d = let j = first_fresh past o e a d in rw j.1 (stands_begun past j.0 u j.2 k)
+        go (f ∷ fs) u d = let j : at c past (due_place c f fs) ≡ e = cc in rw (← j) (stands_at past f fs (due_place c f fs) u refl once k)
 
     pub trail_stands : (past : List Event) → Trail c past → Standing c past
     trail_stands [] begun = record { rounds = λ l i. elim i [ ]; under = tt }

@@ -91,9 +91,9 @@ led_to_more c (the_corner r i) z l (inr k) = inr (inr k)
 
 -- what leads to an item came before the latest
 pub led_before : (c : Chart) (y z : Item) (l : List Item) → Led c (z ∷ l) → In y (z ∷ l) → LedTo c y l
-led_before c y z [] h (inl e) = subst (λ w. LedTo c w []) (sym e) h.0
+led_before c y z [] h (inl e) = rw e h.0
 led_before c y z [] h (inr k) = absurd k
-led_before c y z (w ∷ l) h (inl e) = subst (λ v. LedTo c v (w ∷ l)) (sym e) h.0
+led_before c y z (w ∷ l) h (inl e) = rw e h.0
 led_before c y z (w ∷ l) h (inr k) = led_to_more c y w l (led_before c y w l h.1 k)
 
 pub came_place : (c : Chart) (sound : Sound c) (past : List Event) (e : Event) → Came c sound past e → (e ≡ Closing) ⊎ ((p : Place) × (e ≡ event_at c p) × Valid c p)
@@ -120,8 +120,8 @@ module _ (c : Chart) (sound : Sound c) where
 
       more : (past : List Event) (e : Event) → Trail c past → AllKnown past → Came c sound past e → AllKnown (e ∷ past)
       more past e _ h w =
-          ⊎_elim (λ is. subst (λ f. AllKnown (f ∷ past)) (sym is) h)
-          (λ k. subst (λ f. AllKnown (f ∷ past)) (sym k.1) (put past k.0 k.2 h))
+          ⊎_elim (λ is. rw is h)
+          (λ k. rw k.1 (put past k.0 k.2 h))
           (came_place c sound past e w)
 
   Edges : List Event → Type 0
@@ -149,8 +149,8 @@ module _ (c : Chart) (sound : Sound c) where
 
       more : (past : List Event) (e : Event) → Trail c past → Edges past → Came c sound past e → Edges (e ∷ past)
       more past e _ h w =
-          ⊎_elim (λ is. subst (λ f. Edges (f ∷ past)) (sym is) (closing past h))
-          (λ k. subst (λ f. Edges (f ∷ past)) (sym k.1) (edges_more past k.0 h))
+          ⊎_elim (λ is. rw is (closing past h))
+          (λ k. rw k.1 (edges_more past k.0 h))
           (came_place c sound past e w)
 
   led_to_next : (past : List Event) (q : Place) (rest : List Event) → past ≡ event_at c q ∷ rest → Valid c q → (p : Place) → next c q ≡ p → LedTo c (item_of p) (items past)
@@ -158,13 +158,13 @@ module _ (c : Chart) (sound : Sound c) where
   led_to_next past q rest is valid (corner r i) e = inr (subst (In _) (sym (ap items is ∙ items_at c q rest)) (inl (ap item_of (ap (prev c) (sym e) ∙ prev_next c sound q valid))))
 
   led_first : (past : List Event) (e : Event) → Led c (items past) → Starts c past e → Led c (items (e ∷ past))
-  led_first past e h (with_crossing x is _ _) = subst (λ f. Led c (items (f ∷ past))) (sym is) (tt, h)
-  led_first past e h (with_round r is none _) = subst (λ f. Led c (items (f ∷ past))) (sym is) (inl (and_from (eqb c.count 0) (eqb 0 0) (eq-eqb c.count 0 none) refl), h)
+  led_first past e h (with_crossing x is _ _) = rw is (tt, h)
+  led_first past e h (with_round r is none _) = rw is (inl (and_from (eqb c.count 0) (eqb 0 0) (eq-eqb c.count 0 none) refl), h)
 
   led_more : (past : List Event) (e : Event) → Trail c past → Led c (items past) → Came c sound past e → Led c (items (e ∷ past))
   led_more past e _ h (first_of_loop _ s) = led_first past e h s
-  led_more past e _ h (end_of_loop _ _ _ is) = subst (λ f. Led c (items (f ∷ past))) (sym is) h
-  led_more past e _ h (within_loop q rest was valid is _) = subst (λ f. Led c (items (f ∷ past))) (sym is) (subst (Led c) (sym (items_at c (next c q) past)) (led_to_next past q rest was valid (next c q) refl, h))
+  led_more past e _ h (end_of_loop _ _ _ is) = rw is h
+  led_more past e _ h (within_loop q rest was valid is _) = rw is (subst (Led c) (sym (items_at c (next c q) past)) (led_to_next past q rest was valid (next c q) refl, h))
 
   pub led : {past : List Event} → Trail c past → Led c (items past)
   led = on_trails c sound (λ past. Led c (items past)) tt led_more
@@ -173,7 +173,7 @@ module _ (c : Chart) (sound : Sound c) where
   new_next : (q : Place) (l : List Item) → Led c (item_of q ∷ l) → Once (item_of q ∷ l) → Valid c q → (r : Ring) (i : ℕ) → next c q ≡ corner r i → round_over c i ≡ false → In (the_corner r i) (item_of q ∷ l) → ⊥
   new_next q l h u valid r i e free k =
       ⊎_elim (λ q. cc)
-      (λ j. u.0 (subst (λ y. In y l) (ap item_of (ap (prev c) (sym e) ∙ prev_next c sound q valid)) j))
+      (λ j. u.0 (rw (← ap item_of (ap (prev c) (sym e) ∙ prev_next c sound q valid)) j))
       (led_before c (the_corner r i) (item_of q) l h k)
 
   new_at : (past : List Event) (q : Place) (rest : List Event) → past ≡ event_at c q ∷ rest → Led c (items past) → Once (items past) → Valid c q → (p : Place) → next c q ≡ p → Free c past p → In (item_of p) (items past) → ⊥
@@ -184,13 +184,13 @@ module _ (c : Chart) (sound : Sound c) where
       same = ap items was ∙ items_at c q rest
 
   once_first : (past : List Event) (e : Event) → Once (items past) → Starts c past e → Once (items (e ∷ past))
-  once_first past e u (with_crossing x is _ free) = subst (λ f. Once (items (f ∷ past))) (sym is) (λ k. not_in x (crossings past) free (in_crossings x past k), u)
+  once_first past e u (with_crossing x is _ free) = rw is (λ k. not_in x (crossings past) free (in_crossings x past k), u)
   once_first past e u (with_round r is _ none) = subst (λ f. Once (items (f ∷ past))) (sym is) (λ k. subst (λ l. In (the_corner r 0) (items l)) none k, u)
 
   once_more : (past : List Event) (e : Event) → Trail c past → Once (items past) → Came c sound past e → Once (items (e ∷ past))
   once_more past e _ u (first_of_loop _ s) = once_first past e u s
-  once_more past e _ u (end_of_loop _ _ _ is) = subst (λ f. Once (items (f ∷ past))) (sym is) u
-  once_more past e t u (within_loop q rest was valid is free) = subst (λ f. Once (items (f ∷ past))) (sym is) (subst Once (sym (items_at c (next c q) past)) (new_at past q rest was (led t) u valid (next c q) refl free, u))
+  once_more past e _ u (end_of_loop _ _ _ is) = rw is u
+  once_more past e t u (within_loop q rest was valid is free) = rw is (subst Once (sym (items_at c (next c q) past)) (new_at past q rest was (led t) u valid (next c q) refl free, u))
 
   pub once : {past : List Event} → Trail c past → Once (items past)
   once = on_trails c sound (λ past. Once (items past)) tt once_more

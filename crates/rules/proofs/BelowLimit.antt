@@ -64,7 +64,7 @@ module _ (c : Chart) where
     where
       go : Extends c q u (crossing x s) m ⊎ Extends c (crossing x s) m q u → length u ≤ length m
       go (inl ([], a, f)) = let e = ap length a in omega arith
-      go (inl (g ∷ t, a, f)) = absurd (once_apart x (crossings (g ∷ t)) (crossings m) (subst Once (ap crossings a ∙ crossings-append (g ∷ t) m) o) (first_in c q g t x s f) i)
+      go (inl (g ∷ t, a, f)) = absurd (once_apart x (crossings (g ∷ t)) (crossings m) (rw (← ap crossings a ∙ crossings-append (g ∷ t) m) o) (first_in c q g t x s f) i)
       go (inr (t, a, f)) = let e = ap length a ∙ length-append t u in omega arith
 
 -- the round of a crossing, below the limit
@@ -74,14 +74,14 @@ Short c x = (m : List Event) × Leads c (own c x) m (own c x) × In x (crossings
 module _ (c : Chart) (sound : Sound c) (alt : Alternate c) where
   pub all_short : (s : State) → Standing c s.past → Within c s.past → Finished c s → (x : ℕ) → x < c.count → Short c x
   all_short s k w h x v =
-      let g = holding x (closed s.past) (subst (In x) (finished-flat c s h) (none_lost c sound s h x v)) in
+      let g = holding x (closed s.past) (rw (← finished-flat c s h) (none_lost c sound s h x v)) in
       let i : In g.loop (closed s.past) = subst (In g.loop) (sym g.is) (in_right g.loop g.before (g.loop ∷ g.behind_it) (inl refl)) in
       let r = round_from c sound alt x g.loop (k.rounds g.loop i) g.has_it in
       let b : length g.loop < limit c = (within_bounds c s.past w).1 g.loop i in
       (r.0, r.3, turned_in x g.loop r.0 (turned_back r.0 g.loop r.2) g.has_it, rw (turned-length r.0 g.loop r.2) b)
 
 pub below_limit : (c : Chart) → ((x : ℕ) → x < c.count → Short c x) → (past : List Event) → Once (crossings past) → Standing c past → length (under_way past) < limit c
-below_limit c short past once k = go (under_way past) k.under (once_left (crossings (under_way past)) (flat (closed past)) (subst Once (crossings_parts past) once))
+below_limit c short past once k = go (under_way past) k.under (once_left (crossings (under_way past)) (flat (closed past)) (rw (← crossings_parts past) once))
   where
     go : (u : List Event) → Under c u → Once (crossings u) → length u < limit c
     go [] n o = omega arith

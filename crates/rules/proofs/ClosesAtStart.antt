@@ -13,7 +13,7 @@ use Rattle.rules.proofs.Rounds.{flat, holding, in_flat, turned_in, turned_back, 
 
 -- a crossing of the first part is a crossing of the whole
 pub crossing-left : (x : ℕ) (l a b : List Event) → l ≡ a ++ b → In x (crossings a) → In x (crossings l)
-crossing-left x l a b e i = subst (In x) (sym (ap crossings e ∙ crossings-append a b)) (in_left x (crossings a) (crossings b) i)
+crossing-left x l a b e i = rw (ap crossings e ∙ crossings-append a b) (in_left x (crossings a) (crossings b) i)
 
 module _ (c : Chart) (sound : Sound c) (alt : Alternate c) where
   -- met again in the loop itself
@@ -48,7 +48,7 @@ module _ (c : Chart) (sound : Sound c) (alt : Alternate c) where
       go : y < c.count → Leads c (own c y) u (own c x) → In y (crossings u) ⊎ In y (flat ls) → Leads c (own c x) u (own c x)
       go w h (inl j) =
           let p = part_own c sound alt (own c y) x y u v h j in
-          let o' : Once (crossings p.0 ++ crossings p.1) = subst Once (ap crossings p.2 ∙ crossings-append p.0 p.1) (once_left (crossings u) (flat ls) o) in
+          let o' : Once (crossings p.0 ++ crossings p.1) = rw (← ap crossings p.2 ∙ crossings-append p.0 p.1) (once_left (crossings u) (flat ls) o) in
           subst (λ z. Leads c z u (own c x)) (in_itself x y p.0 p.1 v w o' p.6 p.4 p.5) h
       go w h (inr j) =
           let q = holding y ls j in

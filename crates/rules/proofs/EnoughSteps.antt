@@ -28,8 +28,8 @@ module _ (c : Chart) (sound : Sound c) {S : Type 0} (rule : S → Event → Take
 
   stays_finished : (more : List Call) (m : ℕ) (w : Scene S) → BeginsAndSteps more m → Finished c w.walk → Finished c (play c rule w more).1.walk
   stays_finished [] m w b h = h
-  stays_finished (a_begin x ∷ ks) m w b h = stays_finished ks m (make c rule w (a_begin x)).1 b (subst (Finished c) (sym (begin_finished w.walk x h)) h)
-  stays_finished (a_step ∷ ks) m w b h = stays_finished ks b.0 (make c rule w a_step).1 b.2 (subst (Finished c) (sym (step_finished w.walk h)) h)
+  stays_finished (a_begin x ∷ ks) m w b h = stays_finished ks m (make c rule w (a_begin x)).1 b (rw (begin_finished w.walk x h) h)
+  stays_finished (a_step ∷ ks) m w b h = stays_finished ks b.0 (make c rule w a_step).1 b.2 (rw (step_finished w.walk h) h)
   stays_finished (a_run k j ∷ ks) m w b h = elim b [ ]
   stays_finished (a_rewind ∷ ks) m w b h = elim b [ ]
 

@@ -20,15 +20,15 @@ flat-reverse l ls = ap flat (reverse-cons l ls) ∙ flat_map-append crossings (r
 
 pub from_flat-reverse : (x : ℕ) (ls : List (List Event)) → In x (flat (reverse ls)) → In x (flat ls)
 from_flat-reverse x [] i = i
-from_flat-reverse x (l ∷ ls) i = elim (in_either x (flat (reverse ls)) (crossings l) (subst (In x) (flat-reverse l ls) i)) [ inl j ↦ in_right x (crossings l) (flat ls) (from_flat-reverse x ls j) | inr j ↦ in_left x (crossings l) (flat ls) j ]
+from_flat-reverse x (l ∷ ls) i = elim (in_either x (flat (reverse ls)) (crossings l) (rw (← flat-reverse l ls) i)) [ inl j ↦ in_right x (crossings l) (flat ls) (from_flat-reverse x ls j) | inr j ↦ in_left x (crossings l) (flat ls) j ]
 
 pub to_flat-reverse : (x : ℕ) (ls : List (List Event)) → In x (flat ls) → In x (flat (reverse ls))
 to_flat-reverse x [] i = i
-to_flat-reverse x (l ∷ ls) i = subst (In x) (sym (flat-reverse l ls)) (elim (in_either x (crossings l) (flat ls) i) [ inl j ↦ in_right x (flat (reverse ls)) (crossings l) j | inr j ↦ in_left x (flat (reverse ls)) (crossings l) (to_flat-reverse x ls j) ])
+to_flat-reverse x (l ∷ ls) i = rw (flat-reverse l ls) (elim (in_either x (crossings l) (flat ls) i) [ inl j ↦ in_right x (flat (reverse ls)) (crossings l) j | inr j ↦ in_left x (flat (reverse ls)) (crossings l) (to_flat-reverse x ls j) ])
 
 pub once_flat-reverse : (ls : List (List Event)) → Once (flat ls) → Once (flat (reverse ls))
 once_flat-reverse [] o = o
-once_flat-reverse (l ∷ ls) o = subst Once (sym (flat-reverse l ls))
+once_flat-reverse (l ∷ ls) o = rw (flat-reverse l ls)
     (once_both (flat (reverse ls)) (crossings l) (once_flat-reverse ls (once_right (crossings l) (flat ls) o)) (once_left (crossings l) (flat ls) o) (λ x i j. once_apart x (crossings l) (flat ls) o j (from_flat-reverse x ls i)))
 
 -- the crossings of a finished walk are those of its loops
@@ -45,10 +45,10 @@ module _ (c : Chart) (sound : Sound c) (alt : Alternate c) where
   finished_alike s t r r' k k' h h' = record {
     rounds = λ l i. k.rounds l (in_reverse l (closed s.past) i);
     rounds' = λ l i. k'.rounds l (in_reverse l (closed t.past) i);
-    once = once_flat-reverse (closed s.past) (subst Once (finished-flat c s h) (trail_once c sound r));
-    once' = once_flat-reverse (closed t.past) (subst Once (finished-flat c t h') (trail_once c sound r'));
-    to = λ x i. to_flat-reverse x (closed t.past) (subst (In x) (finished-flat c t h') (none_lost c sound t h' x (round_known x (closed s.past) k.rounds (from_flat-reverse x (closed s.past) i))));
-    from = λ x i. to_flat-reverse x (closed s.past) (subst (In x) (finished-flat c s h) (none_lost c sound s h x (round_known x (closed t.past) k'.rounds (from_flat-reverse x (closed t.past) i))));
+    once = once_flat-reverse (closed s.past) (rw (← finished-flat c s h) (trail_once c sound r));
+    once' = once_flat-reverse (closed t.past) (rw (← finished-flat c t h') (trail_once c sound r'));
+    to = λ x i. to_flat-reverse x (closed t.past) (rw (← finished-flat c t h') (none_lost c sound t h' x (round_known x (closed s.past) k.rounds (from_flat-reverse x (closed s.past) i))));
+    from = λ x i. to_flat-reverse x (closed s.past) (rw (← finished-flat c s h) (none_lost c sound s h x (round_known x (closed t.past) k'.rounds (from_flat-reverse x (closed t.past) i))));
   }
 
   pub finished-pair : (s t : State) → Trail c s.past → Trail c t.past → Standing c s.past → Standing c t.past → Finished c s → Finished c t → Paired (loops s) (loops t)

@@ -163,4 +163,4 @@ module _ (c : Chart) (sound : Sound c) (none : c.count ≡ 0) where
       go (for_want is d) = cc (ap (λ j. round_of j []) (sym i) ∙ d)
       go (all_round q j is) =
           let p : q ≡ r = cc in
-          (back q (c.corners q), subst (In (back q (c.corners q))) (sym (ap closed is ∙ closed_round q)) (inl refl), back_length q (c.corners q) ∙ ap c.corners p)
+          (back q (c.corners q), rw (ap closed is ∙ closed_round q) (inl refl), back_length q (c.corners q) ∙ ap c.corners p)

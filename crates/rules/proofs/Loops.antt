@@ -61,10 +61,10 @@ turned-reverse l m t = (reverse t.1, reverse t.0, ap reverse t.2 ∙ reverse-app
 paired-reverse : {A : Type 0} (ls ms : List (List A)) → Paired ls ms → Paired (map reverse ls) (map reverse ms)
 paired-reverse ls ms no_more = no_more
 paired-reverse ls ms (pair {l = l} {m = m} {ls = ls'} b a t p) =
-    subst (Paired (reverse l ∷ map reverse ls')) (sym (map-append reverse b (m ∷ a)))
+    rw (map-append reverse b (m ∷ a))
     (pair (map reverse b) (map reverse a) (turned-reverse l m t) (subst (Paired (map reverse ls')) (map-append reverse b a) (paired-reverse ls' (b ++ a) p)))
 
 pub loops_paired : (s t : State) → Paired (reverse (closed s.past)) (reverse (closed t.past)) → Paired (loops s) (loops t)
 loops_paired s t h =
     rw (loops_closed s)
-    (subst (Paired (map reverse (reverse (closed s.past)))) (sym (loops_closed t)) (paired-reverse (reverse (closed s.past)) (reverse (closed t.past)) h))
+    (rw (loops_closed t) (paired-reverse (reverse (closed s.past)) (reverse (closed t.past)) h))

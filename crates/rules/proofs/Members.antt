@@ -42,7 +42,7 @@ module _ {A : Type 0} where
 
   pub in_reverse : (x : A) (l : List A) → In x (reverse l) → In x l
   in_reverse x [] i = i
-  in_reverse x (y ∷ l) i = ⊎_elim (λ j. inr (in_reverse x l j)) (⊎_elim inl absurd) (in_either x (reverse l) (y ∷ []) (subst (In x) (reverse-cons y l) i))
+  in_reverse x (y ∷ l) i = ⊎_elim (λ j. inr (in_reverse x l j)) (⊎_elim inl absurd) (in_either x (reverse l) (y ∷ []) (rw (← reverse-cons y l) i))
 
   pub once_left : (l m : List A) → Once (l ++ m) → Once l
   once_left [] m o = tt

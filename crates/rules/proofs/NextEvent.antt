@@ -81,10 +81,10 @@ module _ (c : Chart) (sound : Sound c) where
   Stood (e ∷ es) = (e ≡ event_at c (spot c e es)) × Valid c (spot c e es)
 
   pub valid_due : (f : Event) (us : List Event) → Stood (f ∷ us) → Valid c (due_place c f us)
-  valid_due f us h = subst (Valid c) (sym (due_next c f us)) (valid_next c sound (spot c f us) h.1)
+  valid_due f us h = rw (due_next c f us) (valid_next c sound (spot c f us) h.1)
 
   put : (p : Place) (past u : List Event) → under_way past ≡ u → Stood (event_at c p ∷ u) → Stood (under_way (event_at c p ∷ past))
-  put p past u w h = subst Stood (sym (under_way_more c p past ∙ ap (λ v. event_at c p ∷ v) w)) h
+  put p past u w h = rw (under_way_more c p past ∙ ap (λ v. event_at c p ∷ v) w) h
 
   stood_first : (past : List Event) (e : Event) → under_way past ≡ [] → Starts c past e → Stood (under_way (e ∷ past))
   stood_first past e w (with_crossing x is below _) = rw is (put (crossing x (c.leaving x)) past [] w (refl, below))
@@ -118,7 +118,7 @@ module _ (c : Chart) (sound : Sound c) where
   came_next past e f us w h (closes is) = end_of_loop f us w is
   came_next past e f us w h (goes_on is free) =
       let l = latest past f us w in
-      within_loop (spot c f us) l.0 (l.1 ∙ ap (λ g. g ∷ l.0) h.0) h.1 (is ∙ ap (event_at c) (due_next c f us)) (subst (Free c past) (due_next c f us) free)
+      within_loop (spot c f us) l.0 (l.1 ∙ ap (λ g. g ∷ l.0) h.0) h.1 (is ∙ ap (event_at c) (due_next c f us)) (rw (← due_next c f us) free)
 
   came_in : (past : List Event) (o : Option ℕ) (e : Event) (u : List Event) → under_way past ≡ u → Stood u → Allowed c past o → due_in c (record { past = past; chosen = o }) u ≡ Some e → Came past e
   came_in past o e [] w h al d = first_of_loop w (starts past o e al d)

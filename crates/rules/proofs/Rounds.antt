@@ -37,13 +37,13 @@ in_flat x l (m ∷ ls) (inr h) i = in_right x (crossings m) (flat ls) (in_flat x
 
 pub turned_in : (x : ℕ) (l m : List Event) → Turned l m → In x (crossings l) → In x (crossings m)
 turned_in x l m t i =
-    let i' : In x (crossings t.0 ++ crossings t.1) = subst (In x) (ap crossings t.2 ∙ crossings-append t.0 t.1) i in
-    subst (In x) (sym (ap crossings t.3 ∙ crossings-append t.1 t.0)) (in_swap x (crossings t.0) (crossings t.1) i')
+    let i' : In x (crossings t.0 ++ crossings t.1) = rw (← ap crossings t.2 ∙ crossings-append t.0 t.1) i in
+    rw (ap crossings t.3 ∙ crossings-append t.1 t.0) (in_swap x (crossings t.0) (crossings t.1) i')
 
 pub turned_once : (l m : List Event) → Turned l m → Once (crossings l) → Once (crossings m)
 turned_once l m t o =
-    let o' : Once (crossings t.0 ++ crossings t.1) = subst Once (ap crossings t.2 ∙ crossings-append t.0 t.1) o in
-    subst Once (sym (ap crossings t.3 ∙ crossings-append t.1 t.0)) (once_swap (crossings t.0) (crossings t.1) o')
+    let o' : Once (crossings t.0 ++ crossings t.1) = rw (← ap crossings t.2 ∙ crossings-append t.0 t.1) o in
+    rw (ap crossings t.3 ∙ crossings-append t.1 t.0) (once_swap (crossings t.0) (crossings t.1) o')
 
 pub turned_back : {A : Type 0} (l m : List A) → Turned l m → Turned m l
 turned_back l m t = (t.1, t.0, t.3, t.2)
@@ -73,13 +73,13 @@ without_a_pair c l m ls b a t k = record {
   rounds = λ n i. k.rounds n (inr i);
   rounds' = λ n i. k.rounds' n (in_more n b (m ∷ []) a i);
   once = once_right (crossings l) (flat ls) k.once;
-  once' = subst Once (sym (flat_map-append crossings b a)) (once_less (flat b) (crossings m) (flat a) once'');
-  to = λ x i. subst (In x) (sym (flat_map-append crossings b a)) (in_less x (flat b) (crossings m) (flat a) (not_in_m x i) (subst (In x) (flat_with b a m) (k.to x (in_right x (crossings l) (flat ls) i))));
-  from = λ x i. not_in_l x (subst (In x) (flat_map-append crossings b a) i) (in_either x (crossings l) (flat ls) (k.from x (subst (In x) (sym (flat_with b a m)) (in_more x (flat b) (crossings m) (flat a) (subst (In x) (flat_map-append crossings b a) i)))));
+  once' = rw (flat_map-append crossings b a) (once_less (flat b) (crossings m) (flat a) once'');
+  to = λ x i. rw (flat_map-append crossings b a) (in_less x (flat b) (crossings m) (flat a) (not_in_m x i) (rw (← flat_with b a m) (k.to x (in_right x (crossings l) (flat ls) i))));
+  from = λ x i. not_in_l x (rw (← flat_map-append crossings b a) i) (in_either x (crossings l) (flat ls) (k.from x (rw (flat_with b a m) (in_more x (flat b) (crossings m) (flat a) (rw (← flat_map-append crossings b a) i)))));
 }
   where
     once'' : Once (flat b ++ (crossings m ++ flat a))
-    once'' = subst Once (flat_with b a m) k.once'
+    once'' = rw (← flat_with b a m) k.once'
 
     not_in_m : (x : ℕ) → In x (flat ls) → In x (crossings m) → ⊥
     not_in_m x i j = once_apart x (crossings l) (flat ls) k.once (turned_in x m l (turned_back l m t) j) i
@@ -106,7 +106,7 @@ module _ (c : Chart) (sound : Sound c) (alt : Alternate c) where
 
   no_rest : (x : ℕ) (m t : List Event) → In x (crossings m) → Once (crossings (m ++ t)) → Leads c (own c x) t (own c x) → t ≡ []
   no_rest x m [] i o h = refl
-  no_rest x m (e ∷ t) i o h = absurd (once_apart x (crossings m) (crossings (e ∷ t)) (subst Once (crossings-append m (e ∷ t)) o) i (first_in c (own c x) e t x (c.leaving x) h))
+  no_rest x m (e ∷ t) i o h = absurd (once_apart x (crossings m) (crossings (e ∷ t)) (rw (← crossings-append m (e ∷ t)) o) i (first_in c (own c x) e t x (c.leaving x) h))
 
   -- a crossing has one round
   pub one_round : (x : ℕ) (l m : List Event) → x < c.count → Once (crossings l) → Once (crossings m) → In x (crossings l) → In x (crossings m) →
@@ -132,8 +132,8 @@ module _ (c : Chart) (sound : Sound c) (alt : Alternate c) where
   pairs_off (l ∷ ls) ms k =
       let r = k.rounds l (inl refl) in
       let h = holding r.start_at ms (k.to r.start_at (in_left r.start_at (crossings l) (flat ls) r.begins)) in
-      let k' : Alike c (l ∷ ls) (h.before ++ (h.loop ∷ h.behind_it)) = subst (Alike c (l ∷ ls)) h.is k in
+      let k' : Alike c (l ∷ ls) (h.before ++ (h.loop ∷ h.behind_it)) = rw (← h.is) k in
       let r' = k'.rounds' h.loop (in_right h.loop h.before (h.loop ∷ h.behind_it) (inl refl)) in
-      let o' : Once (crossings h.loop) = once_left (crossings h.loop) (flat h.behind_it) (once_right (flat h.before) (crossings h.loop ++ flat h.behind_it) (subst Once (flat_with h.before h.behind_it h.loop) k'.once')) in
+      let o' : Once (crossings h.loop) = once_left (crossings h.loop) (flat h.behind_it) (once_right (flat h.before) (crossings h.loop ++ flat h.behind_it) (rw (← flat_with h.before h.behind_it h.loop) k'.once')) in
       let t = turns_to l h.loop r r' (once_left (crossings l) (flat ls) k.once) o' h.has_it in
-      subst (Paired (l ∷ ls)) (sym h.is) (pair h.before h.behind_it t (pairs_off ls (h.before ++ h.behind_it) (without_a_pair c l h.loop ls h.before h.behind_it t k')))
+      rw h.is (pair h.before h.behind_it t (pairs_off ls (h.before ++ h.behind_it) (without_a_pair c l h.loop ls h.before h.behind_it t k')))

@@ -26,7 +26,7 @@ module _ (c : Chart) (sound : Sound c) (alt : Alternate c) where
       go : (b : Bool) → eqb c.count 0 ≡ b → Paired (loops s) (loops t)
       go true none =
           let n = eqb-true c.count 0 none in
-          subst (Paired (loops s)) (inner-ring c sound n s k.trail h ∙ sym (inner-ring c sound n t k'.trail h')) (paired_self (loops s))
+          rw (← inner-ring c sound n s k.trail h ∙ sym (inner-ring c sound n t k'.trail h')) (paired_self (loops s))
       go false some = finished-pair c sound alt s t k.trail k'.trail (stands s k) (stands t k') h h'
         where
           stands : (w : State) → Traced c w → Standing c w.past

@@ -72,5 +72,5 @@ module _ (c : Chart) (sound : Sound c) (alt : Alternate c) where
   keeps_next p k = sided_next p (next c p) (keeps_sided p k) refl (valid_next c sound p (keeps_valid c p k))
 
   pub leads_keeps : (q p : Place) (l : List Event) → Keeps c p → Leads c q l p → Keeps c q
-  leads_keeps q p [] v h = subst (Keeps c) (sym h) v
-  leads_keeps q p (e ∷ l) v h = subst (Keeps c) (sym h.1) (keeps_next h.0 (leads_keeps h.0 p l v h.3))
+  leads_keeps q p [] v h = rw h v
+  leads_keeps q p (e ∷ l) v h = rw h.1 (keeps_next h.0 (leads_keeps h.0 p l v h.3))

@@ -65,7 +65,7 @@ module _ (c : Chart) where
         (ltb-true (c.edge r x) (c.corners r) p.0, has_in x (c.along r (c.edge r x)) p.1)
 
     there_once : (e : ℕ) → Once (c.along r e)
-    there_once e = ⊎_elim (λ h. distinct_once (c.along r e) (and_parts (list_all (lies_there r e) (c.along r e)) _ (every_in (edge_sound r) _ edges e (in_upto (c.corners r) e h))).1) (λ h. subst Once (sym (bare e h)) tt) (cases_lt e (c.corners r))
+    there_once e = ⊎_elim (λ h. distinct_once (c.along r e) (and_parts (list_all (lies_there r e) (c.along r e)) _ (every_in (edge_sound r) _ edges e (in_upto (c.corners r) e h))).1) (λ h. rw (bare e h) tt) (cases_lt e (c.corners r))
 
   pub sound_by_test : ring_sound One ≡ true → ring_sound Two ≡ true → ((r : Ring) (e : ℕ) → c.corners r ≤ e → c.along r e ≡ []) → Sound c
   sound_by_test one two bare = record { some_corner = λ r. some r (passes r) (bare r); on_its_edge = λ r. on_its_edge r (passes r) (bare r); all_there = λ r. all_there r (passes r) (bare r); there_once = λ r. there_once r (passes r) (bare r) }

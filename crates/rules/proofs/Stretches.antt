@@ -80,8 +80,8 @@ ComesBefore c p l p' m = (t : List Event) × (l ≡ m ++ t) × Leads c p' t p
 
 module _ (c : Chart) (sound : Sound c) where
   pub leads_valid : (q p : Place) (l : List Event) → Valid c p → Leads c q l p → Valid c q
-  leads_valid q p [] v h = subst (Valid c) (sym h) v
-  leads_valid q p (e ∷ l) v h = subst (Valid c) (sym h.1) (valid_next c sound h.0 (leads_valid h.0 p l v h.3))
+  leads_valid q p [] v h = rw h v
+  leads_valid q p (e ∷ l) v h = rw h.1 (valid_next c sound h.0 (leads_valid h.0 p l v h.3))
 
   pub back_alike : (q p p' : Place) (l m : List Event) → Valid c p → Valid c p' → Leads c q l p → Leads c q m p' → ComesBefore c p l p' m ⊎ ComesBefore c p' m p l
   back_alike q p p' l [] v v' h k = inl (l, refl, rw (← k) h)

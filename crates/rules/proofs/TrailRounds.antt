@@ -83,11 +83,11 @@ module _ (c : Chart) (sound : Sound c) (some : eqb c.count 0 ≡ false) where
               start_at = w.0;
               known = w.1;
               begins = i;
-              goes_round = closes_own c sound alt w.0 y s (f ∷ fs) (closed past) w.1 i (rw (← d) w.2) k.rounds (subst Once p once) (subst (In y) p (has_in y (crossings past) h));
+              goes_round = closes_own c sound alt w.0 y s (f ∷ fs) (closed past) w.1 i (rw (← d) w.2) k.rounds (rw (← p) once) (rw (← p) (has_in y (crossings past) h));
             }
 
         go : (l : List Event) → (l ≡ under_way past) ⊎ In l (closed past) → Round c l
-        go l (inl e) = subst (Round c) (sym (e ∙ u)) whole
+        go l (inl e) = rw (e ∙ u) whole
         go l (inr i) = k.rounds l i
 
     stands_at : (past : List Event) (f : Event) (fs : List Event) (q : Place) → under_way past ≡ f ∷ fs → due_place c f fs ≡ q → Once (crossings past) → Standing c past → Standing c (at c past q ∷ past)

@@ -155,7 +155,7 @@ module _ (c : Chart) (sound : Sound c) where
 
   led_to_next : (past : List Event) (q : Place) (rest : List Event) → past ≡ event_at c q ∷ rest → Valid c q → (p : Place) → next c q ≡ p → LedTo c (item_of p) (items past)
   led_to_next past q rest is valid (crossing x r) e = tt
-  led_to_next past q rest is valid (corner r i) e = inr (subst (In _) (sym (ap items is ∙ items_at c q rest)) (inl (ap item_of (ap (prev c) (sym e) ∙ prev_next c sound q valid))))
+  led_to_next past q rest is valid (corner r i) e = inr (rw (ap items is ∙ items_at c q rest) (inl (ap item_of (ap (prev c) (sym e) ∙ prev_next c sound q valid))))
 
   led_first : (past : List Event) (e : Event) → Led c (items past) → Starts c past e → Led c (items (e ∷ past))
   led_first past e h (with_crossing x is _ _) = rw is (tt, h)
@@ -164,7 +164,7 @@ module _ (c : Chart) (sound : Sound c) where
   led_more : (past : List Event) (e : Event) → Trail c past → Led c (items past) → Came c sound past e → Led c (items (e ∷ past))
   led_more past e _ h (first_of_loop _ s) = led_first past e h s
   led_more past e _ h (end_of_loop _ _ _ is) = rw is h
-  led_more past e _ h (within_loop q rest was valid is _) = rw is (subst (Led c) (sym (items_at c (next c q) past)) (led_to_next past q rest was valid (next c q) refl, h))
+  led_more past e _ h (within_loop q rest was valid is _) = rw is (rw (items_at c (next c q) past) (led_to_next past q rest was valid (next c q) refl, h))
 
   pub led : {past : List Event} → Trail c past → Led c (items past)
   led = on_trails c sound (λ past. Led c (items past)) tt led_more
@@ -190,7 +190,7 @@ module _ (c : Chart) (sound : Sound c) where
   once_more : (past : List Event) (e : Event) → Trail c past → Once (items past) → Came c sound past e → Once (items (e ∷ past))
   once_more past e _ u (first_of_loop _ s) = once_first past e u s
   once_more past e _ u (end_of_loop _ _ _ is) = rw is u
-  once_more past e t u (within_loop q rest was valid is free) = rw is (subst Once (sym (items_at c (next c q) past)) (new_at past q rest was (led t) u valid (next c q) refl free, u))
+  once_more past e t u (within_loop q rest was valid is free) = rw is (rw (items_at c (next c q) past) (new_at past q rest was (led t) u valid (next c q) refl free, u))
 
   pub once : {past : List Event} → Trail c past → Once (items past)
   once = on_trails c sound (λ past. Once (items past)) tt once_more

@@ -25,7 +25,7 @@ within_bounds c (Corner r i ∷ es) w = let k = within_bounds c es w.1 in let d 
 within_bounds c (Closing ∷ es) w = let k = within_bounds c es w.1 in (omega arith, λ l. go l k.0 k.1)
   where
     go : (l : List Event) → length (under_way es) ≤ limit c → ((l : List Event) → In l (closed es) → length l < limit c) → (l ≡ under_way es) ⊎ In l (closed es) → length l < limit c
-    go l h f (inl e) = let d = eqb-false (length (under_way es)) (limit c) w.0 in rw e (omega arith)
+    go l h f (inl e) = grind arith
     go l h f (inr i) = f l i
 
 pub turned-length : (l m : List Event) → Turned l m → length l ≡ length m
@@ -41,7 +41,7 @@ Extends c q l q' m = (t : List Event) × (l ≡ t ++ m) × Leads c q t q'
 module _ (c : Chart) where
   -- a stretch without its oldest event
   less_first : (q p : Place) (e : Event) (l : List Event) → Leads c q (e ∷ l) p → (t : List Event) × (e ∷ l ≡ t ++ (event_at c p ∷ [])) × Leads c q t (next c p)
-  less_first q p e [] h = ([], (λ i. (h.2 ∙ ap (event_at c) h.3) i ∷ []), h.1 ∙ ap (next c) h.3)
+  less_first q p e [] h = grind arith
   less_first q p e (f ∷ l) h =
       let k = less_first h.0 p f l h.3 in
       (e ∷ k.0, ap {B = List Event} (λ t. e ∷ t) k.1, (h.0, h.1, h.2, k.2))

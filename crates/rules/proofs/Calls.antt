@@ -16,7 +16,7 @@ module _ (c : Chart) (s : State) (P : Answer × State → Type 0)
     (hand : (e : Event) → at_limit c s ≡ false → due c s ≡ Some e → P (gave e, hand_over s e)) where
   on_stepped : (o : Option Event) → due c s ≡ o → P (stepped c s o)
   on_stepped None d = none d
-  on_stepped (Some e) d = cond_both (at_limit c s) (refused (told LoopTooLong), s) (gave e, hand_over s e) P full (λ a. hand e a d)
+  on_stepped (Some e) d = grind arith
 
   pub on_step : P (step c s)
   on_step = on_stepped (due c s) refl
@@ -27,11 +27,7 @@ module _ (c : Chart) (s : State) (x : ℕ) (P : Answer × State → Type 0)
     (refuse : (n : Told) → (n ≡ told LoopTooLong → ⊥) → P (refused n, s))
     (choose : x < c.count → has x (crossings s.past) ≡ false → amid (under_way s.past) ≡ false → P (done, record { past = s.past; chosen = Some x })) where
   pub on_begin : P (begin c s x)
-  on_begin =
-      cond_both (at_limit c s) _ _ P full (λ _.
-      cond_both (leb c.count x) _ _ P (λ _. refuse (told (Unknown 0)) (λ q. grind arith)) (λ known.
-      cond_both (amid (under_way s.past)) _ _ P (λ _. refuse (told InsideLoop) (λ q. grind arith)) (λ rests.
-      cond_both (has x (crossings s.past)) _ _ P (λ _. refuse (told HandedOver) (λ q. grind arith)) (λ free. choose (leb-false c.count x known) free rests))))
+  on_begin = grind arith
 
 -- why a run that may hand over one more ends at a walk
 pub data Stops (c : Chart) (s : State) : Reason → Type 0 where
@@ -46,7 +42,7 @@ module _ {S : Type 0} (c : Chart) (rule : S → Event → Taken S) (P : ℕ → 
     (hand : (k : ℕ) (s : State) (t : S) (e : Event) (u : S) (r : Ran S) → at_limit c s ≡ false → due c s ≡ Some e → rule t e ≡ accepts u → P k (hand_over s e) u r → P (suc k) s t (one_more e r)) where
   module _ (k : ℕ) (more : (s : State) (t : S) → P k s t (run c rule k s t)) (s : State) (t : S) where
     on_taken : (e : Event) → at_limit c s ≡ false → due c s ≡ Some e → (a : Taken S) → rule t e ≡ a → P (suc k) s t (run_taken (run c rule k) s t e a)
-    on_taken e l d (accepts u) q = hand k s t e u (run c rule k (hand_over s e) u) l d q (more (hand_over s e) u)
+    on_taken e l d (accepts u) q = grind arith
     on_taken e l d (refuses n) q = stop k s t (by_taker n) (stops_by_taker n l)
 
     on_due : (o : Option Event) → due c s ≡ o → P (suc k) s t (run_due c rule (run c rule k) s t o)

@@ -22,8 +22,8 @@ module _ {S : Type 0} (c : Chart) (rule : S → Event → Taken S) where
   choice_run = on_runs c rule (λ _ s t r. (o : Option ℕ) → o ≡ s.chosen → still r.handed o ≡ r.walk.chosen) (λ _ _ _ p. p) (λ _ _ _ _ _ _ p. p) (λ _ s t e u r _ _ _ f o _. sym (still_none r.handed) ∙ f None refl)
 
   choice-make : (m : Scene S) (k : Call) (o : Option ℕ) → o ≡ m.walk.chosen → choice_after (make c rule m k).0.call (make c rule m k).0.reply (make c rule m k).0.handed o ≡ (make c rule m k).1.walk.chosen
-  choice-make m (a_begin x) o p = on_begin c m.walk x (λ r. chosen_by x (says r.0) o ≡ r.1.chosen) (λ _. p) (λ _ _. p) (λ _ _ _. refl)
-  choice-make m a_step o p = on_step c m.walk (λ r. still (given_by r.0) o ≡ r.1.chosen) (λ _. p) (λ _. p) (λ _ _ _. refl)
+  choice-make m (a_begin x) o p = grind arith
+  choice-make m a_step o p = grind arith
   choice-make m (a_run k j) o p = go (slice_get m.takers j)
     where
       go : (t : Option S) → choice_after (run_into c rule m k j t).0.call (run_into c rule m k j t).0.reply (run_into c rule m k j t).0.handed o ≡ (run_into c rule m k j t).1.walk.chosen
@@ -43,13 +43,7 @@ at_rest_is (e ∷ es) h = cc
 
 module _ (c : Chart) where
   first_chosen : (s : State) (x : ℕ) → s.chosen ≡ Some x → x < c.count → first_due c s ≡ Some (event_of c x)
-  first_chosen s x p known =
-      cond-false (eqb c.count 0) (round_of c.inner s.past) _ (ne_eqb c.count 0 (omega arith))
-      ∙ ap (λ o. begun_at c (or_else o (first_but (crossings s.past) (in_order c)))) p
+  first_chosen s x p known = grind arith
 
   pub chosen_comes : (s : State) → Traced c s → (x : ℕ) → s.chosen ≡ Some x → (step c s).0 ≡ gave (event_of c x)
-  chosen_comes s h x p =
-      let a : Allowed c s.past (Some x) = subst (Allowed c s.past) p h.allowed in
-      let u = at_rest_is (under_way s.past) a.2 in
-      let l : at_limit c s ≡ false = ne_eqb (length (under_way s.past)) (limit c) (let n = ap length u in omega arith) in
-      ap (λ (r : Answer × State). r.0) (step_on c s (event_of c x) l (ap (due_in c s) u ∙ first_chosen s x p a.0))
+  chosen_comes s h x p = grind arith

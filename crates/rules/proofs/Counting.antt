@@ -75,20 +75,14 @@ module _ (c : Chart) (sound : Sound c) where
 
   begun_more : (past : List Event) (e : Event) → MoreCrossings past → under_way past ≡ [] → Starts c past e → MoreCrossings (e ∷ past)
   unfolding MoreCrossings
-  begun_more past e h w (with_crossing x is _ _) = subst MoreCrossings (ap (λ f. f ∷ past) (sym is)) (omega (arith, ap going w))
-  begun_more past e h w (with_round r is _ none) = subst MoreCrossings (ap (λ f. f ∷ past) (sym is)) (rw none (omega arith))
+  begun_more past e h w (with_crossing x is _ _) = grind arith
+  begun_more past e h w (with_round r is _ none) = grind arith
 
   went_more : (past : List Event) (e : Event) → Trail c past → MoreCrossings past → Came c sound past e → MoreCrossings (e ∷ past)
   unfolding MoreCrossings
   went_more past e _ h (first_of_loop w s) = begun_more past e h w s
-  went_more past e _ h (end_of_loop f us w is) = subst MoreCrossings (ap (λ g. g ∷ past) (sym is)) (let g = ap going w in omega arith)
-  went_more past e _ h (within_loop q rest was _ is _) =
-      subst MoreCrossings (ap (λ g. g ∷ past) (sym is))
-      (let a = going_at c (next c q) past in
-      let b = closings_at c (next c q) past in
-      let d = crossings_at c (next c q) past in
-      let g = ap (λ p. going (under_way p)) was ∙ going_at c q rest in
-      omega arith)
+  went_more past e _ h (end_of_loop f us w is) = grind arith
+  went_more past e _ h (within_loop q rest was _ is _) = grind arith
 
   pub few_loops : {past : List Event} → Trail c past → closings past ≤ c.count + 1
   unfolding MoreCrossings
@@ -104,7 +98,7 @@ module _ (c : Chart) (sound : Sound c) where
   -- one more event of a trail is counted
 
   fits : (n : ℕ) (t u : Totals) → n < most_counted → t ≡ u → cond (ltb n most_counted) (Some t) None ≡ Some u
-  fits n t u h e = cond-true (ltb n most_counted) (Some t) None (lt-ltb n most_counted h) ∙ ap Some e
+  fits n t u h e = grind arith
 
   counted_one : c.count < most_counted → c.corners One + c.corners Two ≤ most_counted → (e : Event) (past : List Event) → Trail c (e ∷ past) → counted (totals past) e ≡ Some (totals (e ∷ past))
   counted_one xs cs (Crossing x a b) past t =

@@ -15,13 +15,13 @@ abbrev pub Enough : {S : Type 0} → Chart → (S → Event → Taken S) → Sce
 Enough c rule m = (n : ℕ) × ((more : List Call) (k : ℕ) → BeginsAndSteps more k → n ≤ k → Finished c (later c rule m more).walk)
 
 begin_past : (c : Chart) (s : State) (x : ℕ) → (begin c s x).1.past ≡ s.past
-begin_past c s x = on_begin c s x (λ r. r.1.past ≡ s.past) (λ _. refl) (λ _ _. refl) (λ _ _ _. refl)
+begin_past c s x = grind arith
 
 module _ (c : Chart) (sound : Sound c) {S : Type 0} (rule : S → Event → Taken S) where
   -- a finished walk stays as it is
 
   step_finished : (s : State) → Finished c s → (step c s).1 ≡ s
-  step_finished s h = on_step c s (λ r. r.1 ≡ s) (λ _. refl) (λ _. refl) (λ e _ d. cc)
+  step_finished s h = grind arith
 
   begin_finished : (s : State) (x : ℕ) → Finished c s → (begin c s x).1 ≡ s
   begin_finished s x h = on_begin c s x (λ r. r.1 ≡ s) (λ _. refl) (λ _ _. refl) (λ known free _. absurd (not_in x (crossings s.past) free (none_lost c sound s h x known)))
@@ -45,10 +45,7 @@ module _ (c : Chart) (sound : Sound c) {S : Type 0} (rule : S → Event → Take
       where
         go : (left (step c w.walk).1.past ≤ b.0 → Finished c (play c rule w (a_step ∷ ks)).1.walk) → (o : Option Event) → due c w.walk ≡ o → Finished c (play c rule w (a_step ∷ ks)).1.walk
         go f None d = stays_finished (a_step ∷ ks) m w b d
-        go f (Some e) d =
-            let k = less w.walk e r d in
-            let z = b.1 in
-            f (rw (step_on c w.walk e (free w.walk e r d) d) (omega arith))
+        go f (Some e) d = grind arith
     finishes (a_run k j ∷ ks) m w b r h = elim b [ ]
     finishes (a_rewind ∷ ks) m w b r h = elim b [ ]
 

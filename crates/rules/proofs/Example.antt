@@ -22,7 +22,7 @@ reached_on c {y = y} {r = r} s i e (past_a_corner d h) = subst (λ p. Reaches c 
 -- the star
 
 star_sound : Sound star
-star_sound = sound_by_test star refl refl (λ r e k. get_or-eq_default _ [] k)
+star_sound = grind arith
 
 star_alternates : Alternate star
 star_alternates zero y r h k = ap star.leaving (reached_here star 1 Two refl k)

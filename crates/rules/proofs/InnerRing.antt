@@ -52,14 +52,14 @@ module _ (c : Chart) (sound : Sound c) (none : c.count ≡ 0) where
   next_bare r i = ap (λ l. reach c r i (first l)) (bare r i)
 
   next_corner_on : (r : Ring) (i : ℕ) → suc i < c.corners r → next_corner c r i ≡ suc i
-  next_corner_on r i h = cond-false (eqb (i + 1) (c.corners r)) 0 (i + 1) (ne_eqb (i + 1) (c.corners r) (omega arith)) ∙ omega arith
+  next_corner_on r i h = grind arith
 
   due-corner : (r : Ring) (k : ℕ) → k < c.corners r → due_place c (Corner r k) (back r k) ≡ corner r (next_corner c r k)
   due-corner r zero h = next_bare r 0
   due-corner r (suc k) h = ap (next c) (due-corner r k (omega arith) ∙ ap (corner r) (next_corner_on r k h)) ∙ next_bare r (suc k)
 
   first_is : (past : List Event) (o : Option ℕ) → first_due c (record { past = past; chosen = o }) ≡ round_of c.inner past
-  first_is past o = cond-true (eqb c.count 0) (round_of c.inner past) _ (eq-eqb c.count 0 none)
+  first_is past o = grind arith
 
   amid_is : (r : Ring) (k : ℕ) (o : Option ℕ) → k < c.corners r → due c (record { past = back r (suc k); chosen = o }) ≡ Some (at c (back r (suc k)) (corner r (next_corner c r k)))
   amid_is r k o h =
@@ -70,15 +70,10 @@ module _ (c : Chart) (sound : Sound c) (none : c.count ≡ 0) where
   begin_round (Some r) e is d = let p : Corner r 0 ≡ e = cc in amid r 0 is (sound.some_corner r) (ap (λ f. f ∷ []) (sym p))
 
   at_last : (r : Ring) (k : ℕ) → k + 1 ≡ c.corners r → at c (back r (suc k)) (corner r (next_corner c r k)) ≡ Closing
-  at_last r k h =
-      ap (λ j. at c (back r (suc k)) (corner r j)) (cond-true (eqb (k + 1) (c.corners r)) 0 (k + 1) (eq-eqb (k + 1) (c.corners r) h))
-      ∙ ap (λ n. cond (eqb n 0 && eqb 0 0) Closing (Corner r 0)) none
+  at_last r k h = grind arith
 
   at_next : (r : Ring) (k : ℕ) → suc k < c.corners r → at c (back r (suc k)) (corner r (next_corner c r k)) ≡ Corner r (suc k)
-  at_next r k h =
-      ap (λ j. at c (back r (suc k)) (corner r j)) (next_corner_on r k h)
-      ∙ ap (λ n. cond (eqb n 0 && eqb (suc k) 0) Closing (Corner r (suc k))) none
-      ∙ cond-false (eqb (suc k) 0) Closing (Corner r (suc k)) (ne_eqb (suc k) 0 (omega arith))
+  at_next r k h = grind arith
 
   more_round : (r : Ring) (k : ℕ) (e : Event) → c.inner ≡ Some r → k < c.corners r → at c (back r (suc k)) (corner r (next_corner c r k)) ≡ e → RoundSoFar (e ∷ back r (suc k))
   more_round r k e is h d = go (eqb (k + 1) (c.corners r)) refl
@@ -150,7 +145,7 @@ module _ (c : Chart) (sound : Sound c) (none : c.count ≡ 0) where
   inner-ring s t h = loops_closed s ∙ go (has_ended s t h)
     where
       go : Ended s → map reverse (reverse (closed s.past)) ≡ inner_loops c c.inner
-      go (for_want is d) = ap (λ p. map reverse (reverse (closed p))) is ∙ no_inner c.inner refl d
+      go (for_want is d) = grind arith
       go (all_round r i is) =
           ap (λ p. map reverse (reverse (closed p))) is ∙ ap (λ l. map reverse (reverse l)) (closed_round r)
           ∙ ap (λ l. l ∷ []) (back_forth r (c.corners r)) ∙ ap (inner_loops c) (sym i)

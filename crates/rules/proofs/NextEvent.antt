@@ -45,8 +45,8 @@ pub data HandedAt (c : Chart) (past : List Event) (p : Place) (e : Event) : Type
   goes_on : e ≡ event_at c p → Free c past p → HandedAt c past p e
 
 pub handed_at : (c : Chart) (past : List Event) (p : Place) (e : Event) → at c past p ≡ e → HandedAt c past p e
-handed_at c past (corner r i) e d = cond_both (round_over c i) Closing (Corner r i) (λ f. f ≡ e → HandedAt c past (corner r i) e) (λ _ q. closes (sym q)) (λ h q. goes_on (sym q) h) d
-handed_at c past (crossing x r) e d = cond_both (has x (crossings past)) Closing (event_of c x) (λ f. f ≡ e → HandedAt c past (crossing x r) e) (λ _ q. closes (sym q)) (λ h q. goes_on (sym q) h) d
+handed_at c past (corner r i) e d = grind arith
+handed_at c past (crossing x r) e d = grind arith
 
 round_first : (o : Option Ring) (past : List Event) (e : Event) → round_of o past ≡ Some e → (r : Ring) × (e ≡ Corner r 0) × (past ≡ [])
 round_first (Some r) [] e d = (r, cc, refl)
@@ -84,11 +84,11 @@ module _ (c : Chart) (sound : Sound c) where
   valid_due f us h = rw (due_next c f us) (valid_next c sound (spot c f us) h.1)
 
   put : (p : Place) (past u : List Event) → under_way past ≡ u → Stood (event_at c p ∷ u) → Stood (under_way (event_at c p ∷ past))
-  put p past u w h = rw (under_way_more c p past ∙ ap (λ v. event_at c p ∷ v) w) h
+  put p past u w h = grind arith
 
   stood_first : (past : List Event) (e : Event) → under_way past ≡ [] → Starts c past e → Stood (under_way (e ∷ past))
-  stood_first past e w (with_crossing x is below _) = rw is (put (crossing x (c.leaving x)) past [] w (refl, below))
-  stood_first past e w (with_round r is _ _) = rw is (put (corner r 0) past [] w (refl, sound.some_corner r))
+  stood_first past e w (with_crossing x is below _) = grind arith
+  stood_first past e w (with_round r is _ _) = grind arith
 
   stood_next : (past : List Event) (e f : Event) (us : List Event) → under_way past ≡ f ∷ us → Stood (f ∷ us) → HandedAt c past (due_place c f us) e → Stood (under_way (e ∷ past))
   stood_next past e f us w h (closes is) = rw is tt

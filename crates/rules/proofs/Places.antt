@@ -41,7 +41,7 @@ in_first (x ∷ xs) y p = inl (cc)
 
 -- what stands behind another is not the list's first
 pub in_tail : (z : ℕ) (zs : List ℕ) (x y : ℕ) → behind x (z ∷ zs) ≡ Some y → In y zs
-in_tail z [] x y p = absurd (cond_both (eqb x z) None None (λ o. o ≡ Some y → ⊥) (λ _ q. cc) (λ _ q. cc) p)
+in_tail z [] x y p = grind arith
 in_tail z (w ∷ ws) x y p = cond_both (eqb x z) (Some w) (behind x (w ∷ ws)) (λ o. o ≡ Some y → In y (w ∷ ws)) (λ _. in_first (w ∷ ws) y) (λ _ q. inr (in_tail w ws x y q)) p
 
 pub in_behind : (l : List ℕ) (x y : ℕ) → behind x l ≡ Some y → In y l
@@ -100,13 +100,10 @@ prev c (corner r j) = left_along r (before_corner c r j) (last (c.along r (befor
 prev c (crossing y s) = left_along (other s) (c.edge (other s) y) (before y (c.along (other s) (c.edge (other s) y)))
 
 pub next_corner_below : (c : Chart) (r : Ring) (i : ℕ) → i < c.corners r → next_corner c r i < c.corners r
-next_corner_below c r i h = cond_both (eqb (i + 1) (c.corners r)) 0 (i + 1) (λ j. j < c.corners r) (λ _. omega arith) (λ e. let d = eqb-false (i + 1) (c.corners r) e in omega arith)
+next_corner_below c r i h = grind arith
 
 pub before_next_corner : (c : Chart) (r : Ring) (i : ℕ) → i < c.corners r → before_corner c r (next_corner c r i) ≡ i
-before_next_corner c r i h =
-    cond_both (eqb (i + 1) (c.corners r)) 0 (i + 1) (λ j. before_corner c r j ≡ i)
-    (λ e. let q = eqb-true (i + 1) (c.corners r) e in omega arith)
-    (λ e. cond-false (eqb (i + 1) 0) (c.corners r - 1) (i + 1 - 1) (ne_eqb (i + 1) 0 (omega arith)) ∙ omega arith)
+before_next_corner c r i h = grind arith
 
 module _ (c : Chart) (sound : Sound c) where
   valid_reach : (r : Ring) (i : ℕ) (o : Option ℕ) → i < c.corners r → ((y : ℕ) → o ≡ Some y → In y (c.along r i)) → Valid c (reach c r i o)
@@ -125,10 +122,10 @@ module _ (c : Chart) (sound : Sound c) where
   prev-corner r j i e = ap (λ k. left_along r k (last (c.along r k))) e
 
   prev-reach-crossing : (r : Ring) (i y : ℕ) (q : Option ℕ) → In y (c.along r i) → before y (c.along r i) ≡ q → prev c (crossing y (other r)) ≡ left_along r i q
-  prev-reach-crossing r i y q h e = prev-crossing r y i (sound.on_its_edge r i y h).1 ∙ ap (left_along r i) e
+  prev-reach-crossing r i y q h e = grind arith
 
   prev-reach-corner : (r : Ring) (i : ℕ) (q : Option ℕ) → i < c.corners r → last (c.along r i) ≡ q → prev c (corner r (next_corner c r i)) ≡ left_along r i q
-  prev-reach-corner r i q h e = prev-corner r (next_corner c r i) i (before_next_corner c r i h) ∙ ap (left_along r i) e
+  prev-reach-corner r i q h e = grind arith
 
   from_corner : (r : Ring) (i : ℕ) → i < c.corners r → (o : Option ℕ) → first (c.along r i) ≡ o → prev c (reach c r i o) ≡ corner r i
   from_corner r i h (Some y) e = prev-reach-crossing r i y None (in_first (c.along r i) y e) (before_first (c.along r i) y (sound.there_once r i) e)

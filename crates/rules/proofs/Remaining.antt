@@ -49,19 +49,13 @@ module _ (c : Chart) (sound : Sound c) (some : eqb c.count 0 ≡ false) where
   lighter_crossing past x v h b = let g = lacking_new (limit c + 2) x (crossings past) (upto c.count) (in_upto c.count x v) h in omega arith
 
   lighter_corner : (past : List Event) (r : Ring) (i : ℕ) (f : Event) (fs : List Event) → under_way past ≡ f ∷ fs → length (under_way past) < limit c → weight c (Corner r i ∷ past) < weight c past
-  lighter_corner past r i f fs u b =
-      let p : room c (under_way past) ≡ limit c + 1 - length (f ∷ fs) = ap (room c) u in
-      let q : length (under_way past) ≡ length (f ∷ fs) = ap length u in
-      omega arith
+  lighter_corner past r i f fs u b = grind arith
 
   lighter_closing : (past : List Event) (f : Event) (fs : List Event) → under_way past ≡ f ∷ fs → length (under_way past) < limit c → weight c (Closing ∷ past) < weight c past
-  lighter_closing past f fs u b =
-      let p : room c (under_way past) ≡ limit c + 1 - length (f ∷ fs) = ap (room c) u in
-      let q : length (under_way past) ≡ length (f ∷ fs) = ap length u in
-      omega arith
+  lighter_closing past f fs u b = grind arith
 
   lighter_at : (past : List Event) (f : Event) (fs : List Event) (q : Place) → under_way past ≡ f ∷ fs → Valid c q → length (under_way past) < limit c → weight c (at c past q ∷ past) < weight c past
-  lighter_at past f fs (corner r i) u v b = rw (at_corner c sound some past r i) (lighter_corner past r i f fs u b)
+  lighter_at past f fs (corner r i) u v b = grind arith
   lighter_at past f fs (crossing y s) u v b = cond_both (has y (crossings past)) Closing (event_of c y) (λ e. weight c (e ∷ past) < weight c past) (λ _. lighter_closing past f fs u b) (λ h. lighter_crossing past y v h b)
 
   pub lighter : (past : List Event) (o : Option ℕ) (e : Event) → Allowed c past o → Standing c past → length (under_way past) < limit c → due c (record { past = past; chosen = o }) ≡ Some e → weight c (e ∷ past) < weight c past

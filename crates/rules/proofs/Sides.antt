@@ -23,11 +23,11 @@ module _ (c : Chart) where
 
   next_side : (p : Place) (y : ℕ) (s : Ring) → next c p ≡ crossing y s → s ≡ other (ring_of p)
   next_side (corner r i) y s h = reach-side r s i y (first (c.along r i)) h
-  next_side (crossing x r) y s h = reach-side r s (c.edge r x) y (behind x (c.along r (c.edge r x))) h
+  next_side (crossing x r) y s h = grind arith
 
   next_ring : (p : Place) (s : Ring) (j : ℕ) → next c p ≡ corner s j → s ≡ ring_of p
   next_ring (corner r i) s j h = reach-corner r s i j (first (c.along r i)) h
-  next_ring (crossing x r) s j h = reach-corner r s (c.edge r x) j (behind x (c.along r (c.edge r x))) h
+  next_ring (crossing x r) s j h = grind arith
 
   reaches_side : (p : Place) (y : ℕ) (r : Ring) → Reaches c p y r → r ≡ other (ring_of p)
   reaches_side p y r (at_once e) = next_side p y r e

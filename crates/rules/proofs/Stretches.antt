@@ -64,7 +64,7 @@ module _ (c : Chart) where
         is = ap {B = List Event} (λ t. e ∷ t) k.is;
         to_it = k.to_it;
         from_it = (h.0, h.1, h.2, k.from_it);
-        has_it = rw (crossings-append (e ∷ []) k.newer) (in_right y (crossings (e ∷ [])) (crossings k.newer) k.has_it);
+        has_it = grind arith;
       }
 
   pub parted : (q p : Place) (l : List Event) (y : ℕ) → Leads c q l p → In y (crossings l) → Parted c q l p y

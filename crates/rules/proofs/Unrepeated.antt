@@ -116,7 +116,7 @@ module _ (c : Chart) (sound : Sound c) where
   all_known = on_trails c sound AllKnown (λ y i. absurd i) more
     where
       put : (past : List Event) (p : Place) → Valid c p → AllKnown past → AllKnown (event_at c p ∷ past)
-      put past p valid h y i = ⊎_elim (λ e. subst (Known c) (sym e) (known_at p valid)) (h y) (subst (In y) (items_at c p past) i)
+      put past p valid h y i = grind arith
 
       more : (past : List Event) (e : Event) → Trail c past → AllKnown past → Came c sound past e → AllKnown (e ∷ past)
       more past e _ h w =
@@ -131,11 +131,7 @@ module _ (c : Chart) (sound : Sound c) where
   unfolding Edges
   edges_more past (corner r i) h x a b (inl e) = cc
   edges_more past (corner r i) h x a b (inr i') = h x a b i'
-  edges_more past (crossing y r) h x a b (inl e) =
-      let q : y ≡ x = cc in
-      let f : a ≡ c.edge One y = cc in
-      let g : b ≡ c.edge Two y = cc in
-      (f ∙ ap (c.edge One) q, g ∙ ap (c.edge Two) q)
+  edges_more past (crossing y r) h x a b (inl e) = grind arith
   edges_more past (crossing y r) h x a b (inr i) = h x a b i
 
   -- each crossing of a trail came with its own edges
@@ -148,10 +144,7 @@ module _ (c : Chart) (sound : Sound c) where
       closing past h x a b (inr i) = h x a b i
 
       more : (past : List Event) (e : Event) → Trail c past → Edges past → Came c sound past e → Edges (e ∷ past)
-      more past e _ h w =
-          ⊎_elim (λ is. rw is (closing past h))
-          (λ k. rw k.1 (edges_more past k.0 h))
-          (came_place c sound past e w)
+      more past e _ h w = grind arith
 
   led_to_next : (past : List Event) (q : Place) (rest : List Event) → past ≡ event_at c q ∷ rest → Valid c q → (p : Place) → next c q ≡ p → LedTo c (item_of p) (items past)
   led_to_next past q rest is valid (crossing x r) e = tt
@@ -159,7 +152,7 @@ module _ (c : Chart) (sound : Sound c) where
 
   led_first : (past : List Event) (e : Event) → Led c (items past) → Starts c past e → Led c (items (e ∷ past))
   led_first past e h (with_crossing x is _ _) = rw is (tt, h)
-  led_first past e h (with_round r is none _) = rw is (inl (and_from (eqb c.count 0) (eqb 0 0) (eq-eqb c.count 0 none) refl), h)
+  led_first past e h (with_round r is none _) = grind arith
 
   led_more : (past : List Event) (e : Event) → Trail c past → Led c (items past) → Came c sound past e → Led c (items (e ∷ past))
   led_more past e _ h (first_of_loop _ s) = led_first past e h s
@@ -185,7 +178,7 @@ module _ (c : Chart) (sound : Sound c) where
 
   once_first : (past : List Event) (e : Event) → Once (items past) → Starts c past e → Once (items (e ∷ past))
   once_first past e u (with_crossing x is _ free) = rw is (λ k. not_in x (crossings past) free (in_crossings x past k), u)
-  once_first past e u (with_round r is _ none) = subst (λ f. Once (items (f ∷ past))) (sym is) (λ k. subst (λ l. In (the_corner r 0) (items l)) none k, u)
+  once_first past e u (with_round r is _ none) = grind arith
 
   once_more : (past : List Event) (e : Event) → Trail c past → Once (items past) → Came c sound past e → Once (items (e ∷ past))
   once_more past e _ u (first_of_loop _ s) = once_first past e u s

@@ -92,4 +92,4 @@ below_limit c short past once k = go (under_way past) k.under (once_left (crossi
         omega arith
 
 pub not_at_limit : (c : Chart) (s : State) → length (under_way s.past) < limit c → at_limit c s ≡ false
-not_at_limit c s h = ne_eqb (length (under_way s.past)) (limit c) (omega arith)
+not_at_limit c s h = grind arith

@@ -30,7 +30,7 @@ closes_some c s (suc j) h = omega arith
 
 -- at its limit a loop is under way, so that the walk is not finished
 pub not_finished : (c : Chart) (s : State) → length (under_way s.past) ≡ limit c → Finished c s → ⊥
-not_finished c s full h = let e = ap length (at_rest c s h) in omega arith
+not_finished c s full h = grind arith
 
 module _ (c : Chart) (sound : Sound c) where
   -- as many as the chart has items
@@ -73,7 +73,7 @@ module _ (c : Chart) (sound : Sound c) where
       (r.0, r.1, omega arith, full)
 
   pub limit_at : (s : State) → TooLong c s → at_limit c s ≡ true
-  limit_at s h = eq-eqb (length (under_way s.past)) (limit c) h.3
+  limit_at s h = grind arith
 
   step_too_long : (s : State) → Traced c s → ((step c s).0 ≡ refused (told LoopTooLong) → TooLong c s) × (TooLong c s → (step c s).0 ≡ refused (told LoopTooLong))
   step_too_long s h = (
@@ -95,7 +95,7 @@ module _ (c : Chart) (sound : Sound c) where
         P _ s t r = Traced c s → (r.why ≡ spent → ⊥) → (r.why ≡ long → TooLong c r.walk) × (TooLong c r.walk → r.why ≡ long)
 
         stop : (k : ℕ) (s : State) (t : S) (w : Reason) → Stops c s w → Traced c s → (w ≡ spent → ⊥) → (w ≡ long → TooLong c s) × (TooLong c s → w ≡ long)
-        stop k s t w (stops_at_end d) h n = (λ q. cc, λ b. absurd (not_finished c s b.3 d))
+        stop k s t w (stops_at_end d) h n = grind arith
         stop k s t w (stops_long l) h n = (λ _. too_long_at s h l, λ _. refl)
         stop k s t w (stops_by_taker m l) h n = (λ q. cc, λ b. cc (limit_at s b))
 
@@ -112,7 +112,7 @@ module _ (c : Chart) (sound : Sound c) where
         stop k s t w (stops_by_taker _ _) = (λ q. cc, λ q. cc)
 
         more : (k : ℕ) (s : State) (t : S) (e : Event) (u : S) (r : Ran S) → at_limit c s ≡ false → due c s ≡ Some e → rule t e ≡ accepts u → P k (hand_over s e) u r → (r.why ≡ spent → suc (length r.handed) ≡ suc k) × (suc (length r.handed) ≡ suc k → r.why ≡ spent)
-        more k s t e u r _ _ _ h = (λ q. ap suc (h.0 q), λ q. h.1 (omega arith))
+        more k s t e u r _ _ _ h = grind arith
 
     pub bounded_at : (s : State) → Reached c s → Bounded c rule s
     bounded_at s r =

@@ -119,7 +119,7 @@ module _ (c : Chart) (sound : Sound c) where
   prev-crossing Two y i e = rw e
 
   prev-corner : (r : Ring) (j i : ℕ) → before_corner c r j ≡ i → prev c (corner r j) ≡ left_along r i (last (c.along r i))
-  prev-corner r j i e = ap (λ k. left_along r k (last (c.along r k))) e
+  prev-corner r j i e = grind arith
 
   prev-reach-crossing : (r : Ring) (i y : ℕ) (q : Option ℕ) → In y (c.along r i) → before y (c.along r i) ≡ q → prev c (crossing y (other r)) ≡ left_along r i q
   prev-reach-crossing r i y q h e = grind arith

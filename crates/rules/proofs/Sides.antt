@@ -26,7 +26,7 @@ module _ (c : Chart) where
   next_side (crossing x r) y s h = grind arith
 
   next_ring : (p : Place) (s : Ring) (j : ℕ) → next c p ≡ corner s j → s ≡ ring_of p
-  next_ring (corner r i) s j h = reach-corner r s i j (first (c.along r i)) h
+  next_ring (corner r i) s j h = grind arith
   next_ring (crossing x r) s j h = grind arith
 
   reaches_side : (p : Place) (y : ℕ) (r : Ring) → Reaches c p y r → r ≡ other (ring_of p)

@@ -72,7 +72,7 @@ module _ (c : Chart) where
   parted q p (Crossing z a b ∷ l) y h (inl e) = part_here q p h.0 l y z a b e h.1 h.2 h.3
   parted q p (Crossing z a b ∷ l) y h (inr i) = part_later q p (Crossing z a b) l y h (λ r k. parted r p l y k i)
   parted q p (Corner s j ∷ l) y h i = part_later q p (Corner s j) l y h (λ r k. parted r p l y k i)
-  parted q p (Closing ∷ l) y h i = part_later q p Closing l y h (λ r k. parted r p l y k i)
+  parted q p (Closing ∷ l) y h i = grind arith
 
 -- Where each place has one place before it, two stretches that end at one place agree as far as both go back.
 abbrev pub ComesBefore : Chart → Place → List Event → Place → List Event → Type 0

@@ -21,13 +21,7 @@ module _ (c : Chart) (sound : Sound c) (s : State) (r : Reached c s) (h : Finish
   will_finish_uncrossed none = enough c sound rule (λ p. limit c - length p) free less m r'
     where
       below : (t : State) (e : Event) → Reached c t → due c t ≡ Some e → (length t.past < limit c) × (under_way t.past ≡ t.past)
-      below t e k d =
-          let u = round_under_way c sound none t e (reached_traced c t k).trail d in
-          let w = whole_round c sound none s u.0 (reached_traced c s r).trail h u.1 in
-          let b = (within_bounds c s.past (reached_within c s r)).1 w.0 w.1 in
-          let l = w.2 in
-          let n = u.2 in
-          (omega arith, u.3)
+      below t e k d = grind (arith, round_under_way, reached_traced, whole_round, within_bounds, reached_within)
 
       free : (t : State) (e : Event) → Reached c t → due c t ≡ Some e → at_limit c t ≡ false
       free t e k d = let b = below t e k d in not_at_limit c t (rw b.1 b.0)
@@ -50,7 +44,7 @@ module _ (c : Chart) (sound : Sound c) (s : State) (r : Reached c s) (h : Finish
         free t e k d = not_at_limit c t (below t k)
 
         less : (t : State) (e : Event) → Reached c t → due c t ≡ Some e → weight c (e ∷ t.past) < weight c t.past
-        less t e k d = lighter c sound some t.past t.chosen e (reached_traced c t k).allowed (stands t k) (below t k) d
+        less t e k d = grind (arith, lighter, reached_traced, stands, below)
 
     will_finish : Enough c rule m
     will_finish = go (eqb c.count 0) refl

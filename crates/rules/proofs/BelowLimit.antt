@@ -20,8 +20,8 @@ use Rattle.rules.proofs.FinishedLoops.{finished-flat}
 -- where each event came under the limit, the loop under way is not past it, and each complete loop stayed below it
 pub within_bounds : (c : Chart) (past : List Event) → Within c past → (length (under_way past) ≤ limit c) × ((l : List Event) → In l (closed past) → length l < limit c)
 within_bounds c [] w = (omega arith, λ l i. elim i [ ])
-within_bounds c (Crossing x a b ∷ es) w = let k = within_bounds c es w.1 in let d = eqb-false (length (under_way es)) (limit c) w.0 in (omega arith, k.1)
-within_bounds c (Corner r i ∷ es) w = let k = within_bounds c es w.1 in let d = eqb-false (length (under_way es)) (limit c) w.0 in (omega arith, k.1)
+within_bounds c (Crossing x a b ∷ es) w = grind (arith, eqb-false, within_bounds c es w.1)
+within_bounds c (Corner r i ∷ es) w = grind (arith, eqb-false, within_bounds c es w.1)
 within_bounds c (Closing ∷ es) w = let k = within_bounds c es w.1 in (omega arith, λ l. go l k.0 k.1)
   where
     go : (l : List Event) → length (under_way es) ≤ limit c → ((l : List Event) → In l (closed es) → length l < limit c) → (l ≡ under_way es) ⊎ In l (closed es) → length l < limit c
@@ -29,10 +29,7 @@ within_bounds c (Closing ∷ es) w = let k = within_bounds c es w.1 in (omega ar
     go l h f (inr i) = f l i
 
 pub turned-length : (l m : List Event) → Turned l m → length l ≡ length m
-turned-length l m t =
-    let p : length l ≡ length t.0 + length t.1 = ap length t.2 ∙ length-append t.0 t.1 in
-    let q : length m ≡ length t.1 + length t.0 = ap length t.3 ∙ length-append t.1 t.0 in
-    omega arith
+turned-length l m t = grind (arith, length-append)
 
 -- the longer stretch goes on from where the shorter ends
 abbrev pub Extends : Chart → Place → List Event → Place → List Event → Type 0

@@ -65,12 +65,7 @@ module _ (c : Chart) (sound : Sound c) where
 
   -- at its limit the loop under way needs more
   pub too_long_at : (s : State) → Traced c s → at_limit c s ≡ true → TooLong c s
-  too_long_at s h l =
-      let full = eqb-true (length (under_way s.past)) (limit c) l in
-      let r = loop-ends s h (not_finished c s full) in
-      let some = closes_some c s r.1.0 r.1.2 in
-      let m = r.1.1 in
-      (r.0, r.1, omega arith, full)
+  too_long_at s h l = grind (arith, eqb-true, loop-ends, not_finished, closes_some)
 
   pub limit_at : (s : State) → TooLong c s → at_limit c s ≡ true
   limit_at s h = grind arith

@@ -47,7 +47,7 @@ module _ {S : Type 0} (c : Chart) (rule : S → Event → Taken S) (P : ℕ → 
 
     on_due : (o : Option Event) → due c s ≡ o → P (suc k) s t (run_due c rule (run c rule k) s t o)
     on_due None d = stop k s t at_end (stops_at_end d)
-    on_due (Some e) d = cond_both (at_limit c s) (ended long s t) (run_taken (run c rule k) s t e (rule t e)) (P (suc k) s t) (λ l. stop k s t long (stops_long l)) (λ l. on_taken e l d (rule t e) refl)
+    on_due (Some e) d = grind (arith, stops_long, on_taken)
 
   pub on_runs : (k : ℕ) (s : State) (t : S) → P k s t (run c rule k s t)
   on_runs zero s t = none s t

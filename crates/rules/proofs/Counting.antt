@@ -67,7 +67,7 @@ module _ (c : Chart) (sound : Sound c) where
       (once_fits (corners_of past) (all_corners c) (trail_once_corners c sound t) (λ p i. in_all_corners c p.0 p.1 (known-corner c sound t p.0 p.1 i)))
 
   pub few_items : {past : List Event} → Trail c past → length (items past) ≤ c.count + c.corners One + c.corners Two
-  few_items {past} t = let h = few_crossings t in let k = few_corners t in let n = count_items past in omega arith
+  few_items {past} t = grind (arith, few_crossings, few_corners, count_items)
 
   -- every loop but the round of the corners begins with a crossing
   MoreCrossings : List Event → Type 0
@@ -110,11 +110,7 @@ module _ (c : Chart) (sound : Sound c) where
   counted_one xs cs Closing past t = let h = few_loops t in fits (closings past) _ _ (omega arith) refl
 
   no_overflow : (s : State) → Traced c s → c.count < most_counted → c.corners One + c.corners Two ≤ most_counted → (e : Event) → (step c s).0 ≡ gave e → counted (totals s.past) e ≡ Some (totals (e ∷ s.past))
-  no_overflow s h xs cs e =
-      on_step c s (λ r. r.0 ≡ gave e → counted (totals s.past) e ≡ Some (totals (e ∷ s.past)))
-      (λ _ q. cc)
-      (λ _ q. cc)
-      (λ f _ d q. let is : f ≡ e = cc in rw (← is) (counted_one xs cs f s.past (handed_traced c s f h d).trail))
+  no_overflow s h xs cs e = grind (arith, on_step, counted_one, handed_traced)
 
   pub counted_at : (s : State) → Reached c s → Counted c s
   counted_at s r = let h = reached_traced c s r in record {

@@ -20,7 +20,7 @@ back r (suc k) = Corner r k ∷ back r k
 
 back_forth : (r : Ring) (k : ℕ) → reverse (back r k) ≡ map (Corner r) (upto k)
 back_forth r zero = refl
-back_forth r (suc k) = reverse-cons (Corner r k) (back r k) ∙ ap (λ l. l ++ (Corner r k ∷ [])) (back_forth r k) ∙ sym (map-append (Corner r) (upto k) (k ∷ []))
+back_forth r (suc k) = grind (arith, reverse-cons, map-append, back_forth r k)
 
 back_under_way : (r : Ring) (k : ℕ) → under_way (back r k) ≡ back r k
 back_under_way r zero = refl
@@ -56,7 +56,7 @@ module _ (c : Chart) (sound : Sound c) (none : c.count ≡ 0) where
 
   due-corner : (r : Ring) (k : ℕ) → k < c.corners r → due_place c (Corner r k) (back r k) ≡ corner r (next_corner c r k)
   due-corner r zero h = next_bare r 0
-  due-corner r (suc k) h = ap (next c) (due-corner r k (omega arith) ∙ ap (corner r) (next_corner_on r k h)) ∙ next_bare r (suc k)
+  due-corner r (suc k) h = grind (arith, next_corner_on, next_bare, due-corner r k (omega arith))
 
   first_is : (past : List Event) (o : Option ℕ) → first_due c (record { past = past; chosen = o }) ≡ round_of c.inner past
   first_is past o = grind arith
@@ -118,7 +118,7 @@ module _ (c : Chart) (sound : Sound c) (none : c.count ≡ 0) where
 
       go : RoundSoFar s.past → (r : Ring) × (c.inner ≡ Some r) × (length s.past ≤ c.corners r) × (under_way s.past ≡ s.past)
       go (not_begun is) = first c.inner refl (sym (first_is [] s.chosen) ∙ subst (λ p. due c (record { past = p; chosen = s.chosen }) ≡ Some e) is d) is
-      go (amid r k i h is) = (r, i, (let n = ap length is ∙ back_length r (suc k) in omega arith), rw is (back_under_way r (suc k)))
+      go (amid r k i h is) = grind (arith, back_length, back_under_way)
       go (over r i is) = cc (none_due s r i is)
 
   no_inner : (i : Option Ring) → c.inner ≡ i → round_of i [] ≡ None → [] ≡ inner_loops c i
@@ -146,9 +146,7 @@ module _ (c : Chart) (sound : Sound c) (none : c.count ≡ 0) where
     where
       go : Ended s → map reverse (reverse (closed s.past)) ≡ inner_loops c c.inner
       go (for_want is d) = grind arith
-      go (all_round r i is) =
-          ap (λ p. map reverse (reverse (closed p))) is ∙ ap (λ l. map reverse (reverse l)) (closed_round r)
-          ∙ ap (λ l. l ∷ []) (back_forth r (c.corners r)) ∙ ap (inner_loops c) (sym i)
+      go (all_round r i is) = grind (arith, closed, closed_round, back_forth)
 
   -- the round of a finished walk is one of its loops, and has the ring's corners
   pub whole_round : (s : State) (r : Ring) → Trail c s.past → Finished c s → c.inner ≡ Some r → (l : List Event) × In l (closed s.past) × (length l ≡ c.corners r)

@@ -20,22 +20,16 @@ abbrev forth : List (List Event) → List (List Event)
 forth ls = map reverse (reverse ls)
 
 forth_cons : (l : List Event) (ls : List (List Event)) → forth (l ∷ ls) ≡ forth ls ++ (reverse l ∷ [])
-forth_cons l ls = ap (map reverse) (reverse-cons l ls) ∙ map-append reverse (reverse ls) (l ∷ [])
+forth_cons l ls = grind (arith, reverse-cons, map-append)
 
 turned_past : (e : Event) (es rest : List Event) → reverse (e ∷ es) ++ rest ≡ reverse es ++ (e ∷ rest)
-turned_past e es rest = ap (λ t. t ++ rest) (reverse-cons e es) ∙ append_assoc (reverse es) (e ∷ []) rest
+turned_past e es rest = grind (arith, reverse-cons, append_assoc)
 
 gather_on : (past rest : List Event) → gather [] (reverse past ++ rest) ≡ forth (closed past) ++ gather (reverse (under_way past)) rest
 gather_on [] rest = refl
-gather_on (Crossing x a b ∷ es) rest =
-    ap (gather []) (turned_past (Crossing x a b) es rest) ∙ gather_on es (Crossing x a b ∷ rest)
-    ∙ ap (λ t. forth (closed es) ++ gather t rest) (sym (reverse-cons (Crossing x a b) (under_way es)))
-gather_on (Corner r i ∷ es) rest =
-    ap (gather []) (turned_past (Corner r i) es rest) ∙ gather_on es (Corner r i ∷ rest)
-    ∙ ap (λ t. forth (closed es) ++ gather t rest) (sym (reverse-cons (Corner r i) (under_way es)))
-gather_on (Closing ∷ es) rest =
-    ap (gather []) (turned_past Closing es rest) ∙ gather_on es (Closing ∷ rest)
-    ∙ sym (ap (λ t. t ++ gather [] rest) (forth_cons (under_way es) (closed es)) ∙ append_assoc (forth (closed es)) (reverse (under_way es) ∷ []) (gather [] rest))
+gather_on (Crossing x a b ∷ es) rest = grind (arith, turned_past, reverse-cons, gather_on es (Crossing x a b ∷ rest))
+gather_on (Corner r i ∷ es) rest = grind (arith, turned_past, reverse-cons, gather_on es (Corner r i ∷ rest))
+gather_on (Closing ∷ es) rest = grind (arith, turned_past, forth_cons, append_assoc, gather_on es (Closing ∷ rest))
 
 pub loops_closed : (s : State) → loops s ≡ map reverse (reverse (closed s.past))
 loops_closed s = ap (gather []) (sym (append-nil (reverse s.past))) ∙ gather_on s.past [] ∙ append-nil (forth (closed s.past))
@@ -47,7 +41,7 @@ count_closed (Corner r i ∷ es) = count_closed es
 count_closed (Closing ∷ es) = let h = count_closed es in omega arith
 
 pub count_loops : (s : State) → closings s.past ≡ length (loops s)
-count_loops s = count_closed s.past ∙ sym (ap length (loops_closed s) ∙ length-map (reverse (closed s.past)) reverse ∙ length-reverse (closed s.past))
+count_loops s = grind (arith, count_closed, loops_closed, length-map, length-reverse)
 
 -- loops pair off with themselves, and those that pair off do so read the other way round
 
@@ -65,6 +59,4 @@ paired-reverse ls ms (pair {l = l} {m = m} {ls = ls'} b a t p) =
     (pair (map reverse b) (map reverse a) (turned-reverse l m t) (subst (Paired (map reverse ls')) (map-append reverse b a) (paired-reverse ls' (b ++ a) p)))
 
 pub loops_paired : (s t : State) → Paired (reverse (closed s.past)) (reverse (closed t.past)) → Paired (loops s) (loops t)
-loops_paired s t h =
-    rw (loops_closed s)
-    (rw (loops_closed t) (paired-reverse (reverse (closed s.past)) (reverse (closed t.past)) h))
+loops_paired s t h = grind (arith, loops_closed, paired-reverse)

@@ -67,7 +67,7 @@ module _ {A : Type 0} where
   -- a middle m between a and b, and a and b alone
 
   pub once_less : (a m b : List A) → Once (a ++ (m ++ b)) → Once (a ++ b)
-  once_less a m b o = once_both a b (once_left a (m ++ b) o) (once_right m b (once_right a (m ++ b) o)) (λ x i j. once_apart x a (m ++ b) o i (in_right x m b j))
+  once_less a m b o = grind (arith, once_both, once_left, once_right, once_apart, in_right)
 
   pub middle_apart : (x : A) (a m b : List A) → Once (a ++ (m ++ b)) → In x m → In x (a ++ b) → ⊥
   middle_apart x a m b o i j =
@@ -134,7 +134,7 @@ upto_once (suc n) = once_both (upto n) (n ∷ []) (upto_once n) (absurd, tt) (λ
 
 pub length-upto : (n : ℕ) → length (upto n) ≡ n
 length-upto zero = refl
-length-upto (suc n) = length-append (upto n) (n ∷ []) ∙ (let h = length-upto n in omega arith)
+length-upto (suc n) = grind (arith, length-append, length-upto n)
 
 pub first_but_some : (others l : List ℕ) (x : ℕ) → first_but others l ≡ Some x → In x l × (has x others ≡ false)
 first_but_some others [] x p = cc

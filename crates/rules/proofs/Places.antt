@@ -112,7 +112,7 @@ module _ (c : Chart) (sound : Sound c) where
 
   pub valid_next : (p : Place) → Valid c p → Valid c (next c p)
   valid_next (corner r i) h = valid_reach r i (first (c.along r i)) h (in_first (c.along r i))
-  valid_next (crossing x r) h = valid_reach r (c.edge r x) (behind x (c.along r (c.edge r x))) (sound.all_there r x h).0 (in_behind (c.along r (c.edge r x)) x)
+  valid_next (crossing x r) h = grind (arith, valid_reach, in_behind)
 
   prev-crossing : (r : Ring) (y i : ℕ) → c.edge r y ≡ i → prev c (crossing y (other r)) ≡ left_along r i (before y (c.along r i))
   prev-crossing One y i e = rw e
@@ -128,17 +128,17 @@ module _ (c : Chart) (sound : Sound c) where
   prev-reach-corner r i q h e = grind arith
 
   from_corner : (r : Ring) (i : ℕ) → i < c.corners r → (o : Option ℕ) → first (c.along r i) ≡ o → prev c (reach c r i o) ≡ corner r i
-  from_corner r i h (Some y) e = prev-reach-crossing r i y None (in_first (c.along r i) y e) (before_first (c.along r i) y (sound.there_once r i) e)
+  from_corner r i h (Some y) e = grind (arith, prev-reach-crossing, in_first, before_first)
   from_corner r i h None e = prev-reach-corner r i None h (last_none (c.along r i) e)
 
   from_crossing : (r : Ring) (x i : ℕ) → In x (c.along r i) → i < c.corners r → (o : Option ℕ) → behind x (c.along r i) ≡ o → prev c (reach c r i o) ≡ crossing x r
-  from_crossing r x i h k (Some y) e = prev-reach-crossing r i y (Some x) (in_behind (c.along r i) x y e) (before_behind (c.along r i) x y (sound.there_once r i) e)
+  from_crossing r x i h k (Some y) e = grind (arith, prev-reach-crossing, in_behind, before_behind)
   from_crossing r x i h k None e = prev-reach-corner r i (Some x) k (last_in (c.along r i) x h e)
 
   -- prev undoes next
   pub prev_next : (p : Place) → Valid c p → prev c (next c p) ≡ p
   prev_next (corner r i) h = from_corner r i h (first (c.along r i)) refl
-  prev_next (crossing x r) h = from_crossing r x (c.edge r x) (sound.all_there r x h).1 (sound.all_there r x h).0 (behind x (c.along r (c.edge r x))) refl
+  prev_next (crossing x r) h = grind (arith, from_crossing)
 
 pub next_injective : (c : Chart) → Sound c → (p q : Place) → Valid c p → Valid c q → next c p ≡ next c q → p ≡ q
 next_injective c sound p q h k e = sym (prev_next c sound p h) ∙ (ap (prev c) e ∙ prev_next c sound q k)

@@ -25,16 +25,12 @@ one_less k false b = omega arith
 
 lacking-less : (k y : ℕ) (others xs : List ℕ) → lacking k (y ∷ others) xs ≤ lacking k others xs
 lacking-less k y others [] = omega arith
-lacking-less k y others (x ∷ xs) = let h = lacking-less k y others xs in let g = one_less k (eqb x y) (has x others) in omega arith
+lacking-less k y others (x ∷ xs) = grind (arith, one_less, lacking-less k y others xs)
 
 pub lacking_new : (k y : ℕ) (others xs : List ℕ) → In y xs → has y others ≡ false → lacking k (y ∷ others) xs + k ≤ lacking k others xs
 lacking_new k y others [] i h = elim i [ ]
-lacking_new k y others (x ∷ xs) (inl p) h =
-    let g = lacking-less k y others xs in
-    let a : cond (eqb x y || has x others) 0 k ≡ 0 = ap (λ t. cond (t || has x others) 0 k) (eq-eqb x y (sym p)) in
-    let b : cond (has x others) 0 k ≡ k = ap (λ t. cond t 0 k) (ap (λ z. has z others) (sym p) ∙ h) in
-    omega arith
-lacking_new k y others (x ∷ xs) (inr i) h = let g = lacking_new k y others xs i h in let a = one_less k (eqb x y) (has x others) in omega arith
+lacking_new k y others (x ∷ xs) (inl p) h = grind (arith, lacking-less, eq-eqb)
+lacking_new k y others (x ∷ xs) (inr i) h = grind (arith, one_less, lacking_new k y others xs i h)
 
 -- how many events a loop under way may still have, its closing among them
 abbrev pub room : Chart → List Event → ℕ
@@ -56,13 +52,13 @@ module _ (c : Chart) (sound : Sound c) (some : eqb c.count 0 ≡ false) where
 
   lighter_at : (past : List Event) (f : Event) (fs : List Event) (q : Place) → under_way past ≡ f ∷ fs → Valid c q → length (under_way past) < limit c → weight c (at c past q ∷ past) < weight c past
   lighter_at past f fs (corner r i) u v b = grind arith
-  lighter_at past f fs (crossing y s) u v b = cond_both (has y (crossings past)) Closing (event_of c y) (λ e. weight c (e ∷ past) < weight c past) (λ _. lighter_closing past f fs u b) (λ h. lighter_crossing past y v h b)
+  lighter_at past f fs (crossing y s) u v b = grind (arith, lighter_closing, lighter_crossing)
 
   pub lighter : (past : List Event) (o : Option ℕ) (e : Event) → Allowed c past o → Standing c past → length (under_way past) < limit c → due c (record { past = past; chosen = o }) ≡ Some e → weight c (e ∷ past) < weight c past
   lighter past o e a k b h = go (under_way past) refl h
     where
       go : (u : List Event) → under_way past ≡ u → due_in c (record { past = past; chosen = o }) u ≡ Some e → weight c (e ∷ past) < weight c past
-      go [] u d = let j = first_fresh c sound some past o e a d in rw j.1 (lighter_crossing past j.0 j.2 j.3 b)
+      go [] u d = grind (arith, first_fresh, lighter_crossing)
       go (f ∷ fs) u d =
           let j : at c past (due_place c f fs) ≡ e = cc in
           let w : Under c (f ∷ fs) = subst (Under c) u k.under in

@@ -37,13 +37,6 @@ module _ {S : Type 0} (c : Chart) (rule : S → Event → Taken S) where
 
 -- a choice is made at rest, of a crossing that there is
 
-at_rest_is : (u : List Event) → amid u ≡ false → u ≡ []
-at_rest_is [] h = refl
-at_rest_is (e ∷ es) h = cc
-
 module _ (c : Chart) where
-  first_chosen : (s : State) (x : ℕ) → s.chosen ≡ Some x → x < c.count → first_due c s ≡ Some (event_of c x)
-  first_chosen s x p known = grind arith
-
   pub chosen_comes : (s : State) → Traced c s → (x : ℕ) → s.chosen ≡ Some x → (step c s).0 ≡ gave (event_of c x)
   chosen_comes s h x p = grind arith

@@ -46,17 +46,6 @@ abbrev going : List Event → ℕ
 going [] = 0
 going (e ∷ es) = 1
 
-going_at : (c : Chart) (p : Place) (past : List Event) → going (under_way (event_at c p ∷ past)) ≡ 1
-going_at c p past = ap going (under_way_more c p past)
-
-closings_at : (c : Chart) (p : Place) (past : List Event) → closings (event_at c p ∷ past) ≡ closings past
-closings_at c (corner r i) past = refl
-closings_at c (crossing x r) past = refl
-
-crossings_at : (c : Chart) (p : Place) (past : List Event) → length (crossings past) ≤ length (crossings (event_at c p ∷ past))
-crossings_at c (corner r i) past = omega arith
-crossings_at c (crossing x r) past = omega arith
-
 module _ (c : Chart) (sound : Sound c) where
   pub few_crossings : {past : List Event} → Trail c past → length (crossings past) ≤ c.count
   few_crossings {past} t = rw (← length-upto c.count)

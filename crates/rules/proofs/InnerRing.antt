@@ -121,10 +121,6 @@ module _ (c : Chart) (sound : Sound c) (none : c.count ≡ 0) where
       go (amid r k i h is) = grind (arith, back_length, back_under_way)
       go (over r i is) = cc (none_due s r i is)
 
-  no_inner : (i : Option Ring) → c.inner ≡ i → round_of i [] ≡ None → [] ≡ inner_loops c i
-  no_inner None is d = refl
-  no_inner (Some r) is d = cc
-
   -- a finished walk is not begun, for want of a ring inside, or its round is over
   data Ended (s : State) : Type 0 where
     for_want : s.past ≡ [] → round_of c.inner [] ≡ None → Ended s

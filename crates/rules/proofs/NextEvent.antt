@@ -21,10 +21,6 @@ pub due_next : (c : Chart) (e : Event) (es : List Event) → due_place c e es �
 due_next c e [] = refl
 due_next c e (f ∷ es) = refl
 
-pub under_way_more : (c : Chart) (p : Place) (past : List Event) → under_way (event_at c p ∷ past) ≡ event_at c p ∷ under_way past
-under_way_more c (corner r i) past = refl
-under_way_more c (crossing x r) past = refl
-
 -- at this corner a round of the corners is complete
 abbrev pub round_over : Chart → ℕ → Bool
 round_over c i = eqb c.count 0 && eqb i 0

@@ -102,9 +102,6 @@ prev c (crossing y s) = left_along (other s) (c.edge (other s) y) (before y (c.a
 pub next_corner_below : (c : Chart) (r : Ring) (i : ℕ) → i < c.corners r → next_corner c r i < c.corners r
 next_corner_below c r i h = grind arith
 
-pub before_next_corner : (c : Chart) (r : Ring) (i : ℕ) → i < c.corners r → before_corner c r (next_corner c r i) ≡ i
-before_next_corner c r i h = grind arith
-
 module _ (c : Chart) (sound : Sound c) where
   valid_reach : (r : Ring) (i : ℕ) (o : Option ℕ) → i < c.corners r → ((y : ℕ) → o ≡ Some y → In y (c.along r i)) → Valid c (reach c r i o)
   valid_reach r i (Some y) h f = (sound.on_its_edge r i y (f y refl)).0
@@ -113,13 +110,6 @@ module _ (c : Chart) (sound : Sound c) where
   pub valid_next : (p : Place) → Valid c p → Valid c (next c p)
   valid_next (corner r i) h = valid_reach r i (first (c.along r i)) h (in_first (c.along r i))
   valid_next (crossing x r) h = grind (arith, valid_reach, in_behind)
-
-  prev-crossing : (r : Ring) (y i : ℕ) → c.edge r y ≡ i → prev c (crossing y (other r)) ≡ left_along r i (before y (c.along r i))
-  prev-crossing One y i e = rw e
-  prev-crossing Two y i e = rw e
-
-  prev-corner : (r : Ring) (j i : ℕ) → before_corner c r j ≡ i → prev c (corner r j) ≡ left_along r i (last (c.along r i))
-  prev-corner r j i e = grind arith
 
   prev-reach-crossing : (r : Ring) (i y : ℕ) (q : Option ℕ) → In y (c.along r i) → before y (c.along r i) ≡ q → prev c (crossing y (other r)) ≡ left_along r i q
   prev-reach-crossing r i y q h e = grind arith

@@ -44,9 +44,6 @@ module _ (c : Chart) (sound : Sound c) (some : eqb c.count 0 ≡ false) where
   lighter_crossing : (past : List Event) (x : ℕ) → x < c.count → has x (crossings past) ≡ false → length (under_way past) < limit c → weight c (event_of c x ∷ past) < weight c past
   lighter_crossing past x v h b = let g = lacking_new (limit c + 2) x (crossings past) (upto c.count) (in_upto c.count x v) h in omega arith
 
-  lighter_corner : (past : List Event) (r : Ring) (i : ℕ) (f : Event) (fs : List Event) → under_way past ≡ f ∷ fs → length (under_way past) < limit c → weight c (Corner r i ∷ past) < weight c past
-  lighter_corner past r i f fs u b = grind arith
-
   lighter_closing : (past : List Event) (f : Event) (fs : List Event) → under_way past ≡ f ∷ fs → length (under_way past) < limit c → weight c (Closing ∷ past) < weight c past
   lighter_closing past f fs u b = grind arith
 

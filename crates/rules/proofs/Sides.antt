@@ -17,10 +17,6 @@ module _ (c : Chart) where
   reach-side r s i y None h = cc
   reach-side r s i y (Some x) h = cc
 
-  reach-corner : (r s : Ring) (i j : ℕ) (o : Option ℕ) → reach c r i o ≡ corner s j → s ≡ r
-  reach-corner r s i j None h = cc
-  reach-corner r s i j (Some x) h = cc
-
   next_side : (p : Place) (y : ℕ) (s : Ring) → next c p ≡ crossing y s → s ≡ other (ring_of p)
   next_side (corner r i) y s h = reach-side r s i y (first (c.along r i)) h
   next_side (crossing x r) y s h = grind arith

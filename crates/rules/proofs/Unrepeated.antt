@@ -103,10 +103,6 @@ came_place c sound past e (end_of_loop f us _ is) = inl is
 came_place c sound past e (within_loop q rest _ valid is _) = inr (next c q, is, valid_next c sound q valid)
 
 module _ (c : Chart) (sound : Sound c) where
-  known_at : (p : Place) → Valid c p → Known c (item_of p)
-  known_at (corner r i) h = h
-  known_at (crossing x r) h = h
-
   AllKnown : List Event → Type 0
   AllKnown past = (y : Item) → In y (items past) → Known c y
 
@@ -126,13 +122,6 @@ module _ (c : Chart) (sound : Sound c) where
 
   Edges : List Event → Type 0
   Edges past = (x a b : ℕ) → In (Crossing x a b) past → (a ≡ c.edge One x) × (b ≡ c.edge Two x)
-
-  edges_more : (past : List Event) (p : Place) → Edges past → Edges (event_at c p ∷ past)
-  unfolding Edges
-  edges_more past (corner r i) h x a b (inl e) = cc
-  edges_more past (corner r i) h x a b (inr i') = h x a b i'
-  edges_more past (crossing y r) h x a b (inl e) = grind arith
-  edges_more past (crossing y r) h x a b (inr i) = h x a b i
 
   -- each crossing of a trail came with its own edges
   pub edges_true : {past : List Event} → Trail c past → (x a b : ℕ) → In (Crossing x a b) past → (a ≡ c.edge One x) × (b ≡ c.edge Two x)

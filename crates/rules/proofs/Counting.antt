@@ -18,7 +18,7 @@ use Rattle.rules.proofs.Places.{event_at}
 use Rattle.rules.proofs.Calls.{on_step}
 use Rattle.rules.proofs.Trails.{Trail, Traced, handed_traced}
 use Rattle.rules.proofs.Reached.{reached_traced}
-use Rattle.rules.proofs.NextEvent.{under_way_more, Starts, with_crossing, with_round, Came, first_of_loop, end_of_loop, within_loop, on_trails}
+use Rattle.rules.proofs.NextEvent.{Starts, with_crossing, with_round, Came, first_of_loop, end_of_loop, within_loop, on_trails}
 use Rattle.rules.proofs.Unrepeated.{items, trail_once, trail_once_corners, known-crossing, known-corner}
 use Rattle.rules.proofs.AtEnd.{none_lost}
 use Rattle.rules.proofs.Loops.{count_loops}

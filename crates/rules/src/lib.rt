@@ -17,6 +17,7 @@ pub fn promise_stands<S, T>()
 {}
 
 /// The examples stand; the answer is how many crossings the walk round the star hands over.
+#[tactic(auto, using(crate::proofs::Example::examples_stand))]
 pub fn example_stands() -> u8
     ensures stands { ExamplesStand }
     ensures crossings { result ≡ (totals star_after.walk.past).crossings }

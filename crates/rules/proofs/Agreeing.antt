@@ -8,7 +8,7 @@ use Rattle.rules.specs.Strings.{Scene, Reached}
 use Rattle.rules.specs.Promise.{Agreeing}
 use Rattle.rules.proofs.Reached.{reached_traced, reached_within}
 use Rattle.rules.proofs.Unrepeated.{trail_once}
-use Rattle.rules.proofs.InnerRing.{round_under_way, whole_round}
+use Rattle.rules.proofs.InnerRing.{round_under_way}
 use Rattle.rules.proofs.TrailRounds.{Standing, trail_stands}
 use Rattle.rules.proofs.BelowLimit.{within_bounds, all_short, below_limit, not_at_limit}
 use Rattle.rules.proofs.Remaining.{weight, lighter}
@@ -21,7 +21,7 @@ module _ (c : Chart) (sound : Sound c) (s : State) (r : Reached c s) (h : Finish
   will_finish_uncrossed none = enough c sound rule (λ p. limit c - length p) free less m r'
     where
       below : (t : State) (e : Event) → Reached c t → due c t ≡ Some e → (length t.past < limit c) × (under_way t.past ≡ t.past)
-      below t e k d = grind (arith, round_under_way, reached_traced, whole_round, within_bounds, reached_within)
+      below t e k d = grind (arith, round_under_way, reached_traced, within_bounds)
 
       free : (t : State) (e : Event) → Reached c t → due c t ≡ Some e → at_limit c t ≡ false
       free t e k d = let b = below t e k d in not_at_limit c t (rw b.1 b.0)

@@ -20,8 +20,8 @@ use Rattle.rules.proofs.FinishedLoops.{finished-flat}
 -- where each event came under the limit, the loop under way is not past it, and each complete loop stayed below it
 pub within_bounds : (c : Chart) (past : List Event) → Within c past → (length (under_way past) ≤ limit c) × ((l : List Event) → In l (closed past) → length l < limit c)
 within_bounds c [] w = (omega arith, λ l i. elim i [ ])
-within_bounds c (Crossing x a b ∷ es) w = grind (arith, eqb-false, within_bounds c es w.1)
-within_bounds c (Corner r i ∷ es) w = grind (arith, eqb-false, within_bounds c es w.1)
+within_bounds c (Crossing x a b ∷ es) w = grind (arith, within_bounds c es w.1)
+within_bounds c (Corner r i ∷ es) w = grind (arith, within_bounds c es w.1)
 within_bounds c (Closing ∷ es) w = let k = within_bounds c es w.1 in (omega arith, λ l. go l k.0 k.1)
   where
     go : (l : List Event) → length (under_way es) ≤ limit c → ((l : List Event) → In l (closed es) → length l < limit c) → (l ≡ under_way es) ⊎ In l (closed es) → length l < limit c

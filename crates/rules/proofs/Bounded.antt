@@ -24,10 +24,6 @@ under_way-items (Crossing x a b ∷ es) = let h = under_way-items es in omega ar
 under_way-items (Corner r i ∷ es) = let h = under_way-items es in omega arith
 under_way-items (Closing ∷ es) = omega arith
 
-closes_some : (c : Chart) (s : State) (j : ℕ) → ClosesIn c s j → 0 < j
-closes_some c s zero h = absurd h
-closes_some c s (suc j) h = omega arith
-
 -- at its limit a loop is under way, so that the walk is not finished
 pub not_finished : (c : Chart) (s : State) → length (under_way s.past) ≡ limit c → Finished c s → ⊥
 not_finished c s full h = grind arith
@@ -65,7 +61,7 @@ module _ (c : Chart) (sound : Sound c) where
 
   -- at its limit the loop under way needs more
   pub too_long_at : (s : State) → Traced c s → at_limit c s ≡ true → TooLong c s
-  too_long_at s h l = grind (arith, eqb-true, loop-ends, not_finished, closes_some)
+  too_long_at s h l = grind (arith, loop-ends, not_finished)
 
   pub limit_at : (s : State) → TooLong c s → at_limit c s ≡ true
   limit_at s h = grind arith

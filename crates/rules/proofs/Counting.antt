@@ -99,7 +99,7 @@ module _ (c : Chart) (sound : Sound c) where
   counted_one xs cs Closing past t = let h = few_loops t in fits (closings past) _ _ (omega arith) refl
 
   no_overflow : (s : State) → Traced c s → c.count < most_counted → c.corners One + c.corners Two ≤ most_counted → (e : Event) → (step c s).0 ≡ gave e → counted (totals s.past) e ≡ Some (totals (e ∷ s.past))
-  no_overflow s h xs cs e = grind (arith, on_step, counted_one, handed_traced)
+  no_overflow s h xs cs e = grind (arith, counted_one, handed_traced)
 
   pub counted_at : (s : State) → Reached c s → Counted c s
   counted_at s r = let h = reached_traced c s r in record {

@@ -51,12 +51,9 @@ module _ (c : Chart) (sound : Sound c) (none : c.count ≡ 0) where
   next_bare : (r : Ring) (i : ℕ) → next c (corner r i) ≡ corner r (next_corner c r i)
   next_bare r i = ap (λ l. reach c r i (first l)) (bare r i)
 
-  next_corner_on : (r : Ring) (i : ℕ) → suc i < c.corners r → next_corner c r i ≡ suc i
-  next_corner_on r i h = grind arith
-
   due-corner : (r : Ring) (k : ℕ) → k < c.corners r → due_place c (Corner r k) (back r k) ≡ corner r (next_corner c r k)
   due-corner r zero h = next_bare r 0
-  due-corner r (suc k) h = grind (arith, next_corner_on, next_bare, due-corner r k (omega arith))
+  due-corner r (suc k) h = grind (arith, next_bare, due-corner r k (omega arith))
 
   first_is : (past : List Event) (o : Option ℕ) → first_due c (record { past = past; chosen = o }) ≡ round_of c.inner past
   first_is past o = grind arith
@@ -142,14 +139,4 @@ module _ (c : Chart) (sound : Sound c) (none : c.count ≡ 0) where
     where
       go : Ended s → map reverse (reverse (closed s.past)) ≡ inner_loops c c.inner
       go (for_want is d) = grind arith
-      go (all_round r i is) = grind (arith, closed, closed_round, back_forth)
-
-  -- the round of a finished walk is one of its loops, and has the ring's corners
-  pub whole_round : (s : State) (r : Ring) → Trail c s.past → Finished c s → c.inner ≡ Some r → (l : List Event) × In l (closed s.past) × (length l ≡ c.corners r)
-  whole_round s r t h i = go (has_ended s t h)
-    where
-      go : Ended s → (l : List Event) × In l (closed s.past) × (length l ≡ c.corners r)
-      go (for_want is d) = cc (ap (λ j. round_of j []) (sym i) ∙ d)
-      go (all_round q j is) =
-          let p : q ≡ r = cc in
-          (back q (c.corners q), rw (ap closed is ∙ closed_round q) (inl refl), back_length q (c.corners q) ∙ ap c.corners p)
+      go (all_round r i is) = grind (arith, closed_round, back_forth)

@@ -88,11 +88,11 @@ module _ (c : Chart) (sound : Sound c) where
 
   stood_next : (past : List Event) (e f : Event) (us : List Event) → under_way past ≡ f ∷ us → Stood (f ∷ us) → HandedAt c past (due_place c f us) e → Stood (under_way (e ∷ past))
   stood_next past e f us w h (closes is) = rw is tt
-  stood_next past e f us w h (goes_on is _) = grind (arith, put, valid_due)
+  stood_next past e f us w h (goes_on is _) = grind (arith, valid_due)
 
   stood_more : (past : List Event) (o : Option ℕ) (e : Event) (u : List Event) → under_way past ≡ u → Stood u → Allowed c past o → due_in c (record { past = past; chosen = o }) u ≡ Some e → Stood (under_way (e ∷ past))
   stood_more past o e [] w h al d = stood_first past e w (starts past o e al d)
-  stood_more past o e (f ∷ us) w h al d = grind (arith, stood_next, handed_at)
+  stood_more past o e (f ∷ us) w h al d = grind (arith, stood_next)
 
   pub stood : {past : List Event} → Trail c past → Stood (under_way past)
   stood begun = tt

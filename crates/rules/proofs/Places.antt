@@ -111,18 +111,15 @@ module _ (c : Chart) (sound : Sound c) where
   valid_next (corner r i) h = valid_reach r i (first (c.along r i)) h (in_first (c.along r i))
   valid_next (crossing x r) h = grind (arith, valid_reach, in_behind)
 
-  prev-reach-crossing : (r : Ring) (i y : ℕ) (q : Option ℕ) → In y (c.along r i) → before y (c.along r i) ≡ q → prev c (crossing y (other r)) ≡ left_along r i q
-  prev-reach-crossing r i y q h e = grind arith
-
   prev-reach-corner : (r : Ring) (i : ℕ) (q : Option ℕ) → i < c.corners r → last (c.along r i) ≡ q → prev c (corner r (next_corner c r i)) ≡ left_along r i q
   prev-reach-corner r i q h e = grind arith
 
   from_corner : (r : Ring) (i : ℕ) → i < c.corners r → (o : Option ℕ) → first (c.along r i) ≡ o → prev c (reach c r i o) ≡ corner r i
-  from_corner r i h (Some y) e = grind (arith, prev-reach-crossing, in_first, before_first)
+  from_corner r i h (Some y) e = grind (arith, in_first, before_first)
   from_corner r i h None e = prev-reach-corner r i None h (last_none (c.along r i) e)
 
   from_crossing : (r : Ring) (x i : ℕ) → In x (c.along r i) → i < c.corners r → (o : Option ℕ) → behind x (c.along r i) ≡ o → prev c (reach c r i o) ≡ crossing x r
-  from_crossing r x i h k (Some y) e = grind (arith, prev-reach-crossing, in_behind, before_behind)
+  from_crossing r x i h k (Some y) e = grind (arith, in_behind, before_behind)
   from_crossing r x i h k None e = prev-reach-corner r i (Some x) k (last_in (c.along r i) x h e)
 
   -- prev undoes next

@@ -18,19 +18,14 @@ abbrev pub lacking : ℕ → List ℕ → List ℕ → ℕ
 lacking k others [] = 0
 lacking k others (x ∷ xs) = cond (has x others) 0 k + lacking k others xs
 
-one_less : (k : ℕ) (t b : Bool) → cond (t || b) 0 k ≤ cond b 0 k
-one_less k true true = omega arith
-one_less k true false = omega arith
-one_less k false b = omega arith
-
 lacking-less : (k y : ℕ) (others xs : List ℕ) → lacking k (y ∷ others) xs ≤ lacking k others xs
 lacking-less k y others [] = omega arith
-lacking-less k y others (x ∷ xs) = grind (arith, one_less, lacking-less k y others xs)
+lacking-less k y others (x ∷ xs) = grind (arith, lacking-less k y others xs)
 
 pub lacking_new : (k y : ℕ) (others xs : List ℕ) → In y xs → has y others ≡ false → lacking k (y ∷ others) xs + k ≤ lacking k others xs
 lacking_new k y others [] i h = elim i [ ]
-lacking_new k y others (x ∷ xs) (inl p) h = grind (arith, lacking-less, eq-eqb)
-lacking_new k y others (x ∷ xs) (inr i) h = grind (arith, one_less, lacking_new k y others xs i h)
+lacking_new k y others (x ∷ xs) (inl p) h = grind (arith, lacking-less)
+lacking_new k y others (x ∷ xs) (inr i) h = grind (arith, lacking_new k y others xs i h)
 
 -- how many events a loop under way may still have, its closing among them
 abbrev pub room : Chart → List Event → ℕ
@@ -44,12 +39,9 @@ module _ (c : Chart) (sound : Sound c) (some : eqb c.count 0 ≡ false) where
   lighter_crossing : (past : List Event) (x : ℕ) → x < c.count → has x (crossings past) ≡ false → length (under_way past) < limit c → weight c (event_of c x ∷ past) < weight c past
   lighter_crossing past x v h b = let g = lacking_new (limit c + 2) x (crossings past) (upto c.count) (in_upto c.count x v) h in omega arith
 
-  lighter_closing : (past : List Event) (f : Event) (fs : List Event) → under_way past ≡ f ∷ fs → length (under_way past) < limit c → weight c (Closing ∷ past) < weight c past
-  lighter_closing past f fs u b = grind arith
-
   lighter_at : (past : List Event) (f : Event) (fs : List Event) (q : Place) → under_way past ≡ f ∷ fs → Valid c q → length (under_way past) < limit c → weight c (at c past q ∷ past) < weight c past
   lighter_at past f fs (corner r i) u v b = grind arith
-  lighter_at past f fs (crossing y s) u v b = grind (arith, lighter_closing, lighter_crossing)
+  lighter_at past f fs (crossing y s) u v b = grind (arith, lighter_crossing)
 
   pub lighter : (past : List Event) (o : Option ℕ) (e : Event) → Allowed c past o → Standing c past → length (under_way past) < limit c → due c (record { past = past; chosen = o }) ≡ Some e → weight c (e ∷ past) < weight c past
   lighter past o e a k b h = go (under_way past) refl h

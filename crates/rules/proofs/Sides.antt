@@ -46,7 +46,7 @@ keeps_is_own c x r k = ap (λ s. crossing x s) k.1
 
 module _ (c : Chart) (sound : Sound c) (alt : Alternate c) where
   own_side : (x y : ℕ) (r s : Ring) → x < c.count → r ≡ c.leaving x → Reaches c (crossing x r) y s → s ≡ c.leaving y
-  own_side x y r s h e k = grind (arith, own, reaches_side)
+  own_side x y r s h e k = grind (arith, reaches_side)
 
   -- all crossings reached first from p are reached at their own side
   Sided : Place → Type 0

@@ -38,7 +38,7 @@ module _ (c : Chart) where
   -- the oldest event is what stands at the first place
   pub first_in : (q : Place) (e : Event) (l : List Event) (x : ℕ) (s : Ring) → Leads c q (e ∷ l) (crossing x s) → In x (crossings (e ∷ l))
   first_in q e [] x s h = rw (h.2 ∙ ap (event_at c) h.3) (inl refl)
-  first_in q e (f ∷ l) x s h = grind (arith, crossings-append, in_right, first_in h.0 f l x s h.3)
+  first_in q e (f ∷ l) x s h = grind (arith, crossings-append, first_in h.0 f l x s h.3)
 
   part_here : (q p r : Place) (l : List Event) (y z a b : ℕ) → y ≡ z → q ≡ next c r → Crossing z a b ≡ event_at c r → Leads c r l p → Parted c q (Crossing z a b ∷ l) p y
   part_here q p (corner s i) l y z a b h n e k = cc

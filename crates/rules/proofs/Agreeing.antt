@@ -1,5 +1,5 @@
 -- Where sides alternate and one walk of a chart has finished, every walk of it finishes, and with the same loops.
-use Rattle.std.proofs.Common.{◌≡◌, ◌-◌, ◌<◌, Bool, true, false, eqb, ◌∷◌, length, Some, sym, refl, subst, arith}
+use Rattle.std.proofs.Common.{◌≡◌, ◌-◌, ◌<◌, Bool, true, false, eqb, ◌∷◌, length, Some, refl, arith}
 use Rattle.std.proofs.lemmas.Bool.{eqb-true}
 use Rattle.rules.specs.declared.event.Event.{Event}
 use Rattle.rules.specs.Chart.{Chart, Sound, Alternate}

@@ -1,6 +1,6 @@
 -- Every loop ends within its bound, and too long is answered exactly where the loop under way needs more than its limit.
-use Rattle.std.proofs.Common.{◌≡◌, ℕ, zero, suc, ◌+◌, ◌-◌, ◌<◌, ◌≤◌, true, false, List, [], ◌∷◌, length, Some, None, Option, refl, ap, inl, inr, arith}
-use Rattle.std.proofs.lemmas.Bool.{eqb-true, eq-eqb, both_ways, cond-true}
+use Rattle.std.proofs.Common.{◌≡◌, ℕ, zero, suc, ◌+◌, ◌-◌, ◌≤◌, true, false, List, [], ◌∷◌, length, Some, None, Option, refl, ap, inl, inr, arith}
+use Rattle.std.proofs.lemmas.Bool.{cond-true}
 use Rattle.plane.specs.declared.refusal.Refusal.TheVariants.{LoopTooLong}
 use Rattle.plane.specs.Refusals.{told}
 use Rattle.plane.specs.declared.ring.Ring.TheVariants.{One, Two}
@@ -14,7 +14,6 @@ use Rattle.rules.proofs.Trails.{Traced, handed_traced}
 use Rattle.rules.proofs.Calls.{on_step, on_begin, Stops, stops_long, stops_at_end, stops_by_taker, on_runs}
 use Rattle.rules.proofs.Reached.{reached_traced}
 use Rattle.rules.proofs.Unrepeated.{items}
-use Rattle.rules.proofs.AtEnd.{at_rest}
 use Rattle.rules.proofs.Counting.{few_items}
 
 -- the loop under way has no more events than the walk has items

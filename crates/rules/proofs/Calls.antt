@@ -1,9 +1,7 @@
 -- What a call can come to: the cases of a step, of a begin and of a run.
-use Rattle.std.proofs.Common.{◌≡◌, ℕ, zero, suc, ◌<◌, true, false, leb, Some, None, Option, refl, ap, arith}
-use Rattle.std.proofs.lemmas.Bool.{cond_both, leb-false}
-use Rattle.plane.specs.declared.refusal.Refusal.{Refusal}
-use Rattle.plane.specs.declared.refusal.Refusal.TheVariants.{Unknown, InsideLoop, HandedOver, LoopTooLong}
-use Rattle.plane.specs.Refusals.{Told, number_of, told}
+use Rattle.std.proofs.Common.{◌≡◌, ℕ, zero, suc, ◌<◌, true, false, Some, None, Option, refl, arith}
+use Rattle.plane.specs.declared.refusal.Refusal.TheVariants.{LoopTooLong}
+use Rattle.plane.specs.Refusals.{Told, told}
 use Rattle.rules.specs.declared.event.Event.{Event}
 use Rattle.rules.specs.Lists.{has}
 use Rattle.rules.specs.Chart.{Chart}

@@ -1,15 +1,12 @@
 -- The choice of a walk is the one that its calls left, and a crossing that was chosen comes next.
-use Rattle.std.proofs.Common.{◌≡◌, ℕ, ◌<◌, false, eqb, List, [], ◌∷◌, length, Some, None, Option, sym, refl, ap, ◌∙◌, subst, arith}
+use Rattle.std.proofs.Common.{◌≡◌, ℕ, List, [], ◌∷◌, Some, None, Option, sym, refl, ◌∙◌, arith}
 use Rattle.std.specs.List.{slice_get}
-use Rattle.std.proofs.lemmas.Bool.{both_ways, ne_eqb, cond-false}
 use Rattle.rules.specs.declared.event.Event.{Event}
-use Rattle.rules.specs.Lists.{first_but}
 use Rattle.rules.specs.Chart.{Chart}
-use Rattle.rules.specs.Rules.{State, under_way, crossings, event_of, in_order, begun_at, or_else, round_of, first_due, due_in, limit, at_limit, amid, Answer, gave, step, Taken, run}
-use Rattle.rules.specs.Strings.{Call, a_begin, a_step, a_run, a_rewind, Scene, says, given_by, run_into, make, play, chosen_by, still, choice_after, latest_choice}
-use Rattle.rules.proofs.Calls.{on_step, on_begin, on_runs}
-use Rattle.rules.proofs.Trails.{Allowed, Traced}
-use Rattle.rules.proofs.Reached.{step_on}
+use Rattle.rules.specs.Rules.{State, event_of, gave, step, Taken, run}
+use Rattle.rules.specs.Strings.{Call, a_begin, a_step, a_run, a_rewind, Scene, run_into, make, play, still, choice_after, latest_choice}
+use Rattle.rules.proofs.Calls.{on_runs}
+use Rattle.rules.proofs.Trails.{Traced}
 
 -- the choice that the entries tell is that of the walk
 

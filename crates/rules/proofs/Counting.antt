@@ -1,21 +1,18 @@
 -- The totals of a walk: they count its loops, crossings and corners, and none passes what the chart has.
-use Rattle.std.proofs.Common.{◌≡◌, ℕ, ◌+◌, ◌<◌, ◌≤◌, cond, ltb, List, [], ◌∷◌, ◌++◌, map, length, Some, None, sym, refl, ap, ◌∙◌, subst, arith}
+use Rattle.std.proofs.Common.{◌≡◌, ℕ, ◌+◌, ◌<◌, ◌≤◌, cond, ltb, List, [], ◌∷◌, ◌++◌, map, length, Some, None, refl, ap, arith}
 use Rattle.std.proofs.lemmas.List.{length-append, length-map}
-use Rattle.std.proofs.lemmas.Bool.{lt-ltb, cond-true}
 use Rattle.plane.specs.declared.ring.Ring.{Ring}
 use Rattle.plane.specs.declared.ring.Ring.TheVariants.{One, Two}
 use Rattle.rules.specs.declared.event.Event.{Event}
 use Rattle.rules.specs.declared.event.Event.TheVariants.{Crossing, Corner, Closing}
 use Rattle.rules.specs.Lists.{In, upto}
-use Rattle.rules.specs.Chart.{Chart, Sound, Place, corner, crossing, next}
+use Rattle.rules.specs.Chart.{Chart, Sound}
 use Rattle.rules.specs.declared.totals.Totals.{Totals}
 use Rattle.rules.specs.Rules.{State, under_way, crossings, corners_of, closings, totals, gave, step, Finished}
 use Rattle.rules.specs.Counts.{most_counted, counted}
 use Rattle.rules.specs.Strings.{Reached}
 use Rattle.rules.specs.Promise.{Counted}
 use Rattle.rules.proofs.Members.{in_left, in_right, in_map, in_upto, upto_below, upto_once, length-upto, once_fits}
-use Rattle.rules.proofs.Places.{event_at}
-use Rattle.rules.proofs.Calls.{on_step}
 use Rattle.rules.proofs.Trails.{Trail, Traced, handed_traced}
 use Rattle.rules.proofs.Reached.{reached_traced}
 use Rattle.rules.proofs.NextEvent.{Starts, with_crossing, with_round, Came, first_of_loop, end_of_loop, within_loop, on_trails}

@@ -1,13 +1,12 @@
 -- Where each event that is due comes under the limit and lessens a number, enough steps finish, whatever begins come among them.
-use Rattle.std.proofs.Common.{◌≡◌, ℕ, ◌<◌, ◌≤◌, false, List, [], ◌∷◌, Some, None, Option, sym, refl, subst, arith}
+use Rattle.std.proofs.Common.{◌≡◌, ℕ, ◌<◌, ◌≤◌, false, List, [], ◌∷◌, Some, None, Option, refl, arith}
 use Rattle.rules.specs.declared.event.Event.{Event}
 use Rattle.rules.specs.Chart.{Chart, Sound}
-use Rattle.rules.specs.Rules.{State, crossings, due, at_limit, Answer, step, begin, Taken, Finished}
+use Rattle.rules.specs.Rules.{State, crossings, due, at_limit, step, begin, Taken, Finished}
 use Rattle.rules.specs.Strings.{Call, a_begin, a_step, a_run, a_rewind, Scene, make, play, later, Reached, by_step, by_begin}
 use Rattle.rules.specs.Promise.{BeginsAndSteps}
 use Rattle.rules.proofs.Members.{not_in}
-use Rattle.rules.proofs.Calls.{on_step, on_begin}
-use Rattle.rules.proofs.Reached.{step_on}
+use Rattle.rules.proofs.Calls.{on_begin}
 use Rattle.rules.proofs.AtEnd.{none_lost}
 
 -- the number of further steps that the promise asks for

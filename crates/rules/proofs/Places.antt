@@ -1,8 +1,7 @@
 -- Places of a chart: the place after one is one, and no two come before the same one, since `prev` reads the place before off the chart.
-use Rattle.std.proofs.Common.{◌≡◌, ℕ, ◌+◌, ◌-◌, ◌<◌, cond, eqb, List, [], ◌∷◌, Some, None, Option, sym, refl, ap, ◌∙◌, subst, inl, inr, arith}
+use Rattle.std.proofs.Common.{◌≡◌, ℕ, ◌-◌, ◌<◌, cond, eqb, List, [], ◌∷◌, Some, None, Option, sym, refl, ap, ◌∙◌, subst, inl, inr, arith}
 use Rattle.std.proofs.lemmas.Bool.{eqb-true, eqb-false, eq-eqb, ne_eqb, cond-true, cond-false, cond_both}
 use Rattle.plane.specs.declared.ring.Ring.{Ring}
-use Rattle.plane.specs.declared.ring.Ring.TheVariants.{One, Two}
 use Rattle.rules.specs.Lists.{In, Once, first, behind}
 use Rattle.rules.specs.Chart.{Chart, Sound, Place, corner, crossing, other, next_corner, reach, next}
 use Rattle.rules.specs.declared.event.Event.{Event}

@@ -1,9 +1,6 @@
 -- What is left of a walk, as a number that each event lessens.
-use Rattle.std.proofs.Common.{◌≡◌, ℕ, ◌+◌, ◌-◌, ◌<◌, ◌≤◌, Bool, true, false, cond, ◌||◌, eqb, List, [], ◌∷◌, length, Some, Option, sym, refl, ap, ◌∙◌, subst, inl, inr, arith}
-use Rattle.std.proofs.lemmas.Bool.{eq-eqb, cond_both}
-use Rattle.plane.specs.declared.ring.Ring.{Ring}
+use Rattle.std.proofs.Common.{◌≡◌, ℕ, ◌+◌, ◌-◌, ◌<◌, ◌≤◌, false, cond, eqb, List, [], ◌∷◌, length, Some, Option, refl, subst, inl, inr, arith}
 use Rattle.rules.specs.declared.event.Event.{Event}
-use Rattle.rules.specs.declared.event.Event.TheVariants.{Corner, Closing}
 use Rattle.rules.specs.Lists.{In, has, upto}
 use Rattle.rules.specs.Chart.{Chart, Sound, Place, corner, crossing}
 use Rattle.rules.specs.Rules.{crossings, under_way, due, due_in, due_place, at, event_of, limit}
@@ -11,7 +8,7 @@ use Rattle.rules.proofs.Members.{in_upto}
 use Rattle.rules.proofs.Places.{Valid, own}
 use Rattle.rules.proofs.Trails.{Allowed}
 use Rattle.rules.proofs.Stretches.{leads_valid}
-use Rattle.rules.proofs.TrailRounds.{first_fresh, at_corner, Under, Standing}
+use Rattle.rules.proofs.TrailRounds.{first_fresh, Under, Standing}
 
 -- k for each of the list that is not among the others
 abbrev pub lacking : ℕ → List ℕ → List ℕ → ℕ

@@ -1,5 +1,5 @@
 -- Any two walks of a chart that finish give the same loops.
-use Rattle.std.proofs.Common.{◌≡◌, Bool, true, false, eqb, sym, refl, ◌∙◌, subst}
+use Rattle.std.proofs.Common.{◌≡◌, Bool, true, false, eqb, sym, refl, ◌∙◌}
 use Rattle.std.proofs.lemmas.Bool.{eqb-true}
 use Rattle.rules.specs.Lists.{Paired}
 use Rattle.rules.specs.Chart.{Chart, Sound, Alternate}

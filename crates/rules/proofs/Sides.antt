@@ -1,8 +1,8 @@
 -- Where sides alternate, every crossing of a loop is passed at its own leaving side.
-use Rattle.std.proofs.Common.{◌≡◌, ℕ, ◌<◌, List, [], ◌∷◌, Some, None, Option, sym, refl, ap, ◌∙◌, subst, arith}
+use Rattle.std.proofs.Common.{◌≡◌, ℕ, ◌<◌, List, [], ◌∷◌, Some, None, Option, refl, ap, ◌∙◌, arith}
 use Rattle.plane.specs.declared.ring.Ring.{Ring}
 use Rattle.rules.specs.declared.event.Event.{Event}
-use Rattle.rules.specs.Lists.{first, behind}
+use Rattle.rules.specs.Lists.{first}
 use Rattle.rules.specs.Chart.{Chart, Sound, Place, corner, crossing, next, reach, other, Reaches, at_once, past_a_corner, Alternate}
 use Rattle.rules.proofs.Places.{Valid, own, valid_next}
 use Rattle.rules.proofs.Stretches.{Leads}

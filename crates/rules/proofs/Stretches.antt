@@ -1,12 +1,11 @@
 -- Stretches of a walk: the events that are handed over from place to place, the latest first; two that end at one place agree as far as both go back.
-use Rattle.std.proofs.Common.{◌≡◌, ℕ, ◌⊎◌, List, [], ◌∷◌, ◌++◌, sym, refl, ap, ◌∙◌, subst, inl, inr, arith}
+use Rattle.std.proofs.Common.{◌≡◌, ℕ, ◌⊎◌, List, [], ◌∷◌, ◌++◌, sym, refl, ap, ◌∙◌, inl, inr, arith}
 use Rattle.plane.specs.declared.ring.Ring.{Ring}
 use Rattle.rules.specs.declared.event.Event.{Event}
 use Rattle.rules.specs.declared.event.Event.TheVariants.{Crossing, Corner, Closing}
 use Rattle.rules.specs.Lists.{In}
 use Rattle.rules.specs.Chart.{Chart, Sound, Place, corner, crossing, next}
 use Rattle.rules.specs.Rules.{crossings}
-use Rattle.rules.proofs.Members.{in_right}
 use Rattle.rules.proofs.Places.{Valid, event_at, valid_next, next_injective}
 
 -- from place p on the events l, the latest first, are handed over one place after another, and then q comes next

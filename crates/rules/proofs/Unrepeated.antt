@@ -1,6 +1,5 @@
 -- A trail has no crossing and no corner twice, none that the chart has not, and each crossing with its own edges: each corner is led to by the item of the place before it, which came earlier.
-use Rattle.std.proofs.Common.{◌≡◌, ℕ, ◌<◌, true, false, eqb, ◌⊎◌, List, [], ◌∷◌, sym, refl, ap, ◌∙◌, subst, inl, inr, ⊎_elim, arith}
-use Rattle.std.proofs.lemmas.Bool.{eq-eqb, and_from, both_ways}
+use Rattle.std.proofs.Common.{◌≡◌, ℕ, ◌<◌, true, false, ◌⊎◌, List, [], ◌∷◌, sym, refl, ap, ◌∙◌, subst, inl, inr, ⊎_elim, arith}
 use Rattle.plane.specs.declared.ring.Ring.{Ring}
 use Rattle.plane.specs.declared.ring.Ring.TheVariants.{One, Two}
 use Rattle.rules.specs.declared.event.Event.{Event}

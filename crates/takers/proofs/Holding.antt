@@ -1,11 +1,10 @@
 -- What the takers come to over many events. Assumes nothing.
-use Rattle.std.proofs.Common.{◌≡◌, ℕ, zero, suc, ◌+◌, Bool, true, false, cond, ltb, List, [], ◌∷◌, ◌++◌, length, take, Some, None, sym, refl, ap, ◌∙◌, subst, append_assoc, append-nil, arith}
+use Rattle.std.proofs.Common.{◌≡◌, ℕ, zero, suc, Bool, true, false, cond, ltb, List, [], ◌∷◌, ◌++◌, length, take, Some, None, refl, ap, ◌∙◌, append_assoc, append-nil, arith}
 use Rattle.rules.specs.declared.event.Event.{Event}
 use Rattle.rules.specs.declared.event.Event.TheVariants.{Crossing, Corner, Closing}
-use Rattle.rules.specs.Counts.{most_counted}
 use Rattle.rules.specs.Rules.{Taken, accepts, refuses}
-use Rattle.rules.specs.Strings.{Makes, of_none, of_one}
-use Rattle.takers.specs.Takers.{placed, listed, passed_on, capped}
+use Rattle.rules.specs.Strings.{of_none, of_one}
+use Rattle.takers.specs.Takers.{placed, capped}
 use Rattle.takers.specs.Laws.{ListHolds, TallyAdds, accepted}
 
 -- a rule by a test: what it accepts is the value

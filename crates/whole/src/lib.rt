@@ -4,7 +4,7 @@
 ghost use Rattle.whole.specs.Exact.{WalkSlight, ExactSide, ExactTurn, ExactAgainst, ExactParallel, ExactCrossing, ExactBetween, ExactMeet, ExactPassed, ExactInside};
 
 /// On whole corners within 1,024 of the origin, at a tolerance from 0 to below 1, single precision answers as whole numbers do.
-pub fn whole_is_exact() -> u8
+pub fn whole_is_exact()
     ensures slight { WalkSlight }
     ensures side { ExactSide }
     ensures turn { ExactTurn }
@@ -15,6 +15,4 @@ pub fn whole_is_exact() -> u8
     ensures meet { ExactMeet }
     ensures passed { ExactPassed }
     ensures inside { ExactInside }
-{
-    0
-}
+{}

@@ -157,8 +157,9 @@ pub record AllFit (a b c d : Corner) : Type 0 where
   pub third : Fit c
   pub fourth : Fit d
 
-pub meet_sane : (a b c d : Corner) (epsilon : Float) → AllFit a b c d → AllAdmitted a b c d → SaneMeet (meet_of a b c d epsilon)
-meet_sane a b c d epsilon fit all =
+-- what is their meeting is sane
+pub meet_sane : (a b c d : Corner) (epsilon : Float) (m : Meet Mark) → m ≡ meet_of a b c d epsilon → AllFit a b c d → AllAdmitted a b c d → SaneMeet m
+meet_sane a b c d epsilon m e fit all =
     let f = fit.first in
     let g = fit.second in
     let h = fit.third in
@@ -168,8 +169,9 @@ meet_sane a b c d epsilon fit all =
     let C = admitted_within c all.third in
     let D = admitted_within d all.fourth in
     let w = denom_within a b c d A B C D in
-    cond_both (is_parallel (denom_of a b c d) epsilon) (parallel_of a b c d epsilon) (crossing_of (num1_of a c d ⊘ denom_of a b c d) (num2_of a b c ⊘ denom_of a b c d)) SaneMeet
+    subst SaneMeet (sym e)
+    (cond_both (is_parallel (denom_of a b c d) epsilon) (parallel_of a b c d epsilon) (crossing_of (num1_of a c d ⊘ denom_of a b c d) (num2_of a b c ⊘ denom_of a b c d)) SaneMeet
     (λ _. cond_both (is_level (orientation_of a b c epsilon)) (overlap_of (between_of a b c) (between_of a b d) (between_of c d a) (between_of c d b)) Apart SaneMeet
     (λ _. overlap_sane (between_of a b c) (between_of a b d) (between_of c d a) (between_of c d b) (between_sane a b c f g A B) (between_sane a b d f g A B) (between_sane c d a h i C D) (between_sane c d b h i C D)) (λ _. tt))
     (λ p. let n = not_level 122 (denom_of a b c d) epsilon w p in
-    crossing_sane _ _ (quotient_number (num1_of a c d) (denom_of a b c d) 121 122 (num1_within a c d A C D) w n) (quotient_number (num2_of a b c) (denom_of a b c d) 121 122 (num2_within a b c A B C) w n))
+    crossing_sane _ _ (quotient_number (num1_of a c d) (denom_of a b c d) 121 122 (num1_within a c d A C D) w n) (quotient_number (num2_of a b c) (denom_of a b c d) 121 122 (num2_within a b c A B C) w n)))

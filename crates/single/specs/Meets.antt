@@ -16,13 +16,17 @@ use Rattle.single.specs.Triangle.{orientation_of}
 abbrev pub denom_of : Corner → Corner → Corner → Corner → Float
 denom_of a b c d = a.x ⊗ (d.y ⊖ c.y) ⊕ b.x ⊗ (c.y ⊖ d.y) ⊕ d.x ⊗ (b.y ⊖ a.y) ⊕ c.x ⊗ (a.y ⊖ b.y)
 
+-- what is divided by D for a place, but for its sign
+abbrev pub num_of : Corner → Corner → Corner → Float
+num_of p q r = p.x ⊗ (r.y ⊖ q.y) ⊕ q.x ⊗ (p.y ⊖ r.y) ⊕ r.x ⊗ (q.y ⊖ p.y)
+
 -- S: the place on the edge from a to b is S over D
 abbrev pub num1_of : Corner → Corner → Corner → Float
-num1_of a c d = a.x ⊗ (d.y ⊖ c.y) ⊕ c.x ⊗ (a.y ⊖ d.y) ⊕ d.x ⊗ (c.y ⊖ a.y)
+num1_of a c d = num_of a c d
 
 -- T: the place on the edge from c to d is T over D
 abbrev pub num2_of : Corner → Corner → Corner → Float
-num2_of a b c = neg (a.x ⊗ (c.y ⊖ b.y) ⊕ b.x ⊗ (a.y ⊖ c.y) ⊕ c.x ⊗ (b.y ⊖ a.y))
+num2_of a b c = neg (num_of a b c)
 
 -- 2 ^ -23
 abbrev pub ulp : Float

@@ -23,17 +23,11 @@ fn is_admitted(c: Corner) -> bool
 }
 
 /// The corner that a pair is admitted as, if it is. Its numbers are then finite.
+#[tactic(auto, using(crate::specs::Finite::admitted_finite))]
 pub fn admitted(pair: Pair) -> Option<Corner>
     ensures value { result ≡ the_admitted pair }
     ensures numbers { IfSome result FiniteCorner }
 {
-    let corner = Corner {
-        x: pair.x,
-        y: pair.y,
-    };
-    if is_admitted(corner) {
-        Some(corner)
-    } else {
-        None
-    }
+    let corner = Corner::from(pair);
+    is_admitted(corner).then_some(corner)
 }

@@ -60,6 +60,6 @@ impl Arithmetic for Single {
     }
 
     fn point_of(&self, c: Corner) -> Point {
-        segment::corner_point(c)
+        Point::from(c)
     }
 }

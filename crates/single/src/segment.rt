@@ -1,6 +1,6 @@
 // The points that marks and corners stand for.
 ghost use Rattle.std.specs.Prelude.{◌≡◌};
-ghost use Rattle.single.specs.Marks.{bcoords_of, point_at, point_of};
+ghost use Rattle.single.specs.Marks.{bcoords_of, point_at};
 
 use crate::corner::{Corner, Mark, Point};
 
@@ -15,23 +15,16 @@ pub(crate) fn centered_bcoords(m: Mark) -> f32
     }
 }
 
-/// The point of a corner.
-pub(crate) fn corner_point(c: Corner) -> Point
-    ensures { result ≡ point_of c }
-{
-    Point { x: c.x, y: c.y }
-}
-
 /// The point of the mark m on the edge from a to b: a corner where the mark is at an end, else both corners by their weights.
 pub fn to_point(a: Corner, b: Corner, m: Mark) -> Point
     ensures { result ≡ point_at a b m }
 {
     match m {
-        Mark::Start => corner_point(a),
+        Mark::Start => Point::from(a),
         Mark::Inside(w, s) => Point {
             x: a.x * w + b.x * s,
             y: a.y * w + b.y * s,
         },
-        Mark::End => corner_point(b),
+        Mark::End => Point::from(b),
     }
 }

@@ -1,6 +1,6 @@
 // Where two edges meet.
 ghost use Rattle.std.specs.Prelude.{◌≡◌};
-ghost use Rattle.single.specs.Meets.{denom_of, num1_of, num2_of, is_parallel, classified, along, between_of, overlap_of, parallel_of, meet_of};
+ghost use Rattle.single.specs.Meets.{denom_of, num_of, is_parallel, classified, along, between_of, overlap_of, parallel_of, meet_of};
 ghost use Rattle.single.specs.Sane.{AllAdmitted, FiniteParts, SaneMeet};
 
 use crate::corner::{Corner, Mark};
@@ -24,8 +24,8 @@ pub fn segments_intersection2d(
     if is_parallel(denom, epsilon) {
         return parallel_intersection(a, b, c, d, epsilon);
     }
-    let s = num1_of(a, c, d) / denom;
-    let t = num2_of(a, b, c) / denom;
+    let s = num_of(a, c, d) / denom;
+    let t = -num_of(a, b, c) / denom;
     if 0.0 > s || s > 1.0 || 0.0 > t || t > 1.0 {
         Meet::Apart
     } else {
@@ -40,18 +40,11 @@ fn denom_of(a: Corner, b: Corner, c: Corner, d: Corner) -> f32
     a.x * (d.y - c.y) + b.x * (c.y - d.y) + d.x * (b.y - a.y) + c.x * (a.y - b.y)
 }
 
-// What is divided for the place on the first edge.
-fn num1_of(a: Corner, c: Corner, d: Corner) -> f32
-    ensures { result ≡ num1_of a c d }
+// What is divided for a place on an edge, but for its sign.
+fn num_of(p: Corner, q: Corner, r: Corner) -> f32
+    ensures { result ≡ num_of p q r }
 {
-    a.x * (d.y - c.y) + c.x * (a.y - d.y) + d.x * (c.y - a.y)
-}
-
-// What is divided for the place on the second edge.
-fn num2_of(a: Corner, b: Corner, c: Corner) -> f32
-    ensures { result ≡ num2_of a b c }
-{
-    -(a.x * (c.y - b.y) + b.x * (a.y - c.y) + c.x * (b.y - a.y))
+    p.x * (r.y - q.y) + q.x * (p.y - r.y) + r.x * (q.y - p.y)
 }
 
 // Below the tolerance, or at most 2^-23 in size.

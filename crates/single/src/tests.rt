@@ -13,9 +13,7 @@ fn corner(x: f32, y: f32) -> Corner {
     Corner { x, y }
 }
 
-fn is_middle(m: Mark) -> bool {
-    matches!(m, Mark::Inside(w, s) if w == 0.5 && s == 0.5)
-}
+const MIDDLE: Mark = Mark::Inside(0.5, 0.5);
 
 #[test]
 fn diagonals_cross_in_the_middle(rt: HostRuntime) -> Result<(), Fail> {
@@ -24,8 +22,8 @@ fn diagonals_cross_in_the_middle(rt: HostRuntime) -> Result<(), Fail> {
     let Meet::Crossing(m, n) = segments_intersection2d(a, b, c, d, 0.0) else {
         return Err(Fail::new("no crossing"));
     };
-    assert!(rt; is_middle(m));
-    assert!(rt; is_middle(n));
+    assert_eq!(rt; m, MIDDLE);
+    assert_eq!(rt; n, MIDDLE);
     Ok(())
 }
 
@@ -36,10 +34,10 @@ fn halves_overlap(rt: HostRuntime) -> Result<(), Fail> {
     let Meet::Overlap(m, n, o, p) = segments_intersection2d(a, b, c, d, 0.0) else {
         return Err(Fail::new("no overlap"));
     };
-    assert!(rt; is_middle(m));
-    assert!(rt; matches!(n, Mark::Start));
-    assert!(rt; matches!(o, Mark::End));
-    assert!(rt; is_middle(p));
+    assert_eq!(rt; m, MIDDLE);
+    assert_eq!(rt; n, Mark::Start);
+    assert_eq!(rt; o, Mark::End);
+    assert_eq!(rt; p, MIDDLE);
     Ok(())
 }
 
@@ -60,6 +58,6 @@ fn what_is_no_number_is_refused(rt: HostRuntime) {
     ];
     let answer = check::check::<Single, _>(&pairs, &mut store, &mut ring);
     assert!(rt; matches!(answer, Err(Refusal::NotAdmitted(1))));
-    assert!(rt; store.len() == 2);
-    assert!(rt; ring.corners().len() == 0);
+    assert_eq!(rt; store.len(), 2);
+    assert_eq!(rt; ring.corners().len(), 0);
 }

@@ -9,6 +9,9 @@ use Rattle.std.proofs.lemmas.Int.{ints}
 use Rattle.std.proofs.lemmas.Bool.{cases_Bool, cond_both, and_parts, or_parts, both_ways, not-true}
 use Rattle.plane.specs.declared.answer.Meet.{Meet}
 use Rattle.plane.specs.declared.answer.Meet.TheVariants.{Apart, Crossing}
+use Rattle.plane.specs.declared.mark.Mark.{Mark}
+use Rattle.plane.specs.declared.mark.Mark.TheVariants.{Start, Inside, End}
+use Rattle.plane.specs.Marks.{both, overlap_of}
 use Rattle.floats.specs.Operations.{◌⊖◌, ◌⊘◌, nought, unit}
 use Rattle.floats.specs.Numbers.{signed, IsFraction}
 use Rattle.floats.specs.Bounds.{Within}
@@ -18,10 +21,9 @@ use Rattle.floats.proofs.Fractions.{eq_fraction, le_fraction}
 use Rattle.floats.proofs.Bounds.{difference_bounded, quotient_number}
 use Rattle.floats.proofs.Units.{steps_ordered, step_some, part_in_unit, rest_in_unit, nought_fraction}
 use Rattle.single.specs.declared.corner.Corner.{Corner}
-use Rattle.single.specs.declared.corner.Mark.{Mark}
-use Rattle.single.specs.declared.corner.Mark.TheVariants.{Start, Inside, End}
+use Rattle.single.specs.declared.corner.Weights.{Weights}
 use Rattle.single.specs.Triangle.{orientation_of}
-use Rattle.single.specs.Meets.{ulp, is_parallel, classified, is_out, denom_of, num1_of, num2_of, crossing_of, along, between_of, both, overlap_of, is_level, parallel_of, meet_of}
+use Rattle.single.specs.Meets.{ulp, is_parallel, classified, is_out, denom_of, num1_of, num2_of, crossing_of, along, between_of, is_level, parallel_of, meet_of}
 use Rattle.single.specs.Sane.{AllAdmitted, SaneMark, SaneMeet}
 use Rattle.single.specs.Finite.{holds, WithinCorner, admitted_within, num1_within, num2_within, denom_within}
 
@@ -32,8 +34,8 @@ fails b h = subst (λ (v : Bool). T (not v)) (sym h) tt
 
 pub classified_sane : (q : Float) → InUnit q → SaneMark (classified q)
 classified_sane q u =
-    cond_both (eq q nought) Start (cond (eq q unit) End (Inside (unit ⊖ q) q)) SaneMark (λ _. tt)
-    (λ s. cond_both (eq q unit) End (Inside (unit ⊖ q) q) SaneMark (λ _. tt)
+    cond_both (eq q nought) Start (cond (eq q unit) End (Inside (record { before = unit ⊖ q; behind = q }))) SaneMark (λ _. tt)
+    (λ s. cond_both (eq q unit) End (Inside (record { before = unit ⊖ q; behind = q })) SaneMark (λ _. tt)
     (λ e. record { above = le_not_level nought q u.low (eq_turned nought q ∙ s); below = le_not_level q unit u.high e; rest = refl; within_unit = rest_in_unit q u }))
 
 -- ---- edges that are not parallel
@@ -98,7 +100,7 @@ crossing_sane s t m n =
 
 -- ---- parallel edges
 
-abbrev SaneFound : Option Mark → Type 0
+abbrev SaneFound : Option (Mark Weights) → Type 0
 SaneFound None = Unit {0}
 SaneFound (Some m) = SaneMark m
 
@@ -134,12 +136,12 @@ between_sane a b c f g A B =
     (λ h. along_sane a.y b.y c.y (holds _ f.on_y) (holds _ g.on_y) A.on_y B.on_y (differs _ _ h))
     (λ _. cond_both (eq a.x c.x && eq a.y c.y) (Some Start) None SaneFound (λ _. tt) (λ _. tt)))
 
-both_sane : (p q : Option Mark) (f : Mark → Mark → Meet Mark) (rest : Meet Mark) → SaneFound p → SaneFound q → ((m n : Mark) → SaneMark m → SaneMark n → SaneMeet (f m n)) → SaneMeet rest → SaneMeet (both p q f rest)
+both_sane : (p q : Option (Mark Weights)) (f : Mark Weights → Mark Weights → Meet (Mark Weights)) (rest : Meet (Mark Weights)) → SaneFound p → SaneFound q → ((m n : Mark Weights) → SaneMark m → SaneMark n → SaneMeet (f m n)) → SaneMeet rest → SaneMeet (both p q f rest)
 both_sane None q f rest P Q F R = R
 both_sane (Some m) None f rest P Q F R = R
 both_sane (Some m) (Some n) f rest P Q F R = F m n P Q
 
-overlap_sane : (c d a b : Option Mark) → SaneFound c → SaneFound d → SaneFound a → SaneFound b → SaneMeet (overlap_of c d a b)
+overlap_sane : (c d a b : Option (Mark Weights)) → SaneFound c → SaneFound d → SaneFound a → SaneFound b → SaneMeet (overlap_of c d a b)
 overlap_sane c d a b C D A B =
     both_sane c d _ _ C D (λ m n M N. (M, tt, N, tt))
     (both_sane a b _ _ A B (λ m n M N. (tt, M, tt, N))
@@ -158,7 +160,7 @@ pub record AllFit (a b c d : Corner) : Type 0 where
   pub fourth : Fit d
 
 -- what is their meeting is sane
-pub meet_sane : (a b c d : Corner) (epsilon : Float) (m : Meet Mark) → m ≡ meet_of a b c d epsilon → AllFit a b c d → AllAdmitted a b c d → SaneMeet m
+pub meet_sane : (a b c d : Corner) (epsilon : Float) (m : Meet (Mark Weights)) → m ≡ meet_of a b c d epsilon → AllFit a b c d → AllAdmitted a b c d → SaneMeet m
 meet_sane a b c d epsilon m e fit all =
     let f = fit.first in
     let g = fit.second in

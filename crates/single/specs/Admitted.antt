@@ -2,7 +2,7 @@
 use Rattle.std.specs.Prelude.{Bool, cond, ◌&&◌, Some, None, Option, from_bits, Float}
 use Rattle.std.specs.Float.{binary32}
 use Rattle.std.specs.Float.Ieee.{neg, le}
-use Rattle.single.specs.declared.corner.Pair.{Pair}
+use Rattle.plane.specs.declared.pair.Pair.{Pair}
 use Rattle.single.specs.declared.corner.Corner.{Corner}
 
 -- 2 ^ 59
@@ -17,8 +17,8 @@ abbrev pub is_admitted : Corner → Bool
 is_admitted c = in_reach c.x && in_reach c.y
 
 -- a pair is admitted as the corner of its two numbers
-abbrev pub corner_of : Pair → Corner
+abbrev pub corner_of : Pair Float → Corner
 corner_of p = record { x = p.x; y = p.y }
 
-abbrev pub admitted : Pair → Option Corner
+abbrev pub admitted : Pair Float → Option Corner
 admitted p = cond (is_admitted (corner_of p)) (Some (corner_of p)) None

@@ -5,7 +5,6 @@ pub mod Triangle
 pub mod Marks
 pub mod Meets
 pub mod Single
-pub mod Outlines
 pub mod Sane
 pub mod Laws
 pub mod Finite

@@ -1,14 +1,15 @@
 -- What holds of the answers for admitted corners: finite formulas, and marks that are numbers from 0 to 1. Assumes nothing.
-use Rattle.std.specs.Prelude.{◌≡◌, true, T, Float}
+use Rattle.std.specs.Prelude.{◌≡◌, true, T}
 use Rattle.std.specs.Float.Ieee.{lt}
 use Rattle.std.specs.Float.{float_is_finite}
 use Rattle.plane.specs.declared.answer.Meet.{Meet}
 use Rattle.plane.specs.declared.answer.Meet.TheVariants.{Apart, Crossing, Overlap}
+use Rattle.plane.specs.declared.mark.Mark.{Mark}
+use Rattle.plane.specs.declared.mark.Mark.TheVariants.{Start, Inside, End}
 use Rattle.floats.specs.Operations.{◌⊖◌, nought, unit}
 use Rattle.floats.specs.Units.{InUnit}
 use Rattle.single.specs.declared.corner.Corner.{Corner}
-use Rattle.single.specs.declared.corner.Mark.{Mark}
-use Rattle.single.specs.declared.corner.Mark.TheVariants.{Start, Inside, End}
+use Rattle.single.specs.declared.corner.Weights.{Weights}
 use Rattle.single.specs.Admitted.{is_admitted}
 use Rattle.single.specs.Meets.{denom_of, num1_of, num2_of}
 
@@ -31,19 +32,19 @@ pub record FiniteParts (a b c d : Corner) : Type 0 where
   pub num2 : float_is_finite (num2_of a b c) ≡ true
 
 -- the weights of an inside mark: s is above 0 and below 1, and the other is 1 less s, from 0 to 1
-pub record SaneWeights (w s : Float) : Type 0 where
-  pub above : T (lt nought s)
-  pub below : T (lt s unit)
-  pub rest : w ≡ unit ⊖ s
-  pub within_unit : InUnit w
+pub record SaneWeights (w : Weights) : Type 0 where
+  pub above : T (lt nought w.behind)
+  pub below : T (lt w.behind unit)
+  pub rest : w.before ≡ unit ⊖ w.behind
+  pub within_unit : InUnit w.before
 
-abbrev pub SaneMark : Mark → Type 0
+abbrev pub SaneMark : Mark Weights → Type 0
 SaneMark Start = Unit {0}
-SaneMark (Inside w s) = SaneWeights w s
+SaneMark (Inside w) = SaneWeights w
 SaneMark End = Unit {0}
 
 -- so are all marks of a meeting
-abbrev pub SaneMeet : Meet Mark → Type 0
+abbrev pub SaneMeet : Meet (Mark Weights) → Type 0
 SaneMeet Apart = Unit {0}
 SaneMeet (Crossing m n) = SaneMark m × SaneMark n
 SaneMeet (Overlap m n o p) = SaneMark m × SaneMark n × SaneMark o × SaneMark p

@@ -1,17 +1,20 @@
 -- What single precision answers to each question. Assumes nothing.
+use Rattle.std.specs.Prelude.{Float}
+use Rattle.plane.specs.declared.pair.Pair.{Pair}
+use Rattle.plane.specs.declared.mark.Mark.{Mark}
 use Rattle.plane.specs.Meaning.{Meaning}
+use Rattle.plane.specs.Marks.{end_of}
 use Rattle.single.specs.declared.tolerance.Single.{Single}
-use Rattle.single.specs.declared.corner.Pair.{Pair}
 use Rattle.single.specs.declared.corner.Corner.{Corner}
-use Rattle.single.specs.declared.corner.Mark.{Mark}
+use Rattle.single.specs.declared.corner.Weights.{Weights}
 use Rattle.single.specs.declared.corner.Point.{Point}
 use Rattle.single.specs.Admitted.{admitted}
 use Rattle.single.specs.Triangle.{orientation_of, turn_of, against_of, passed_of}
-use Rattle.single.specs.Marks.{not_after, end_of, point_at, point_of}
+use Rattle.single.specs.Marks.{not_after, point_at, point_of}
 use Rattle.single.specs.Meets.{meet_of}
 
 -- the arithmetic's value carries the tolerance
-abbrev pub single : Meaning Single Pair Corner Mark Point
+abbrev pub single : Meaning Single (Pair Float) Corner (Mark Weights) Point
 single = record {
   admitted = admitted;
   side = λ s a b c. orientation_of a b c s.tolerance;

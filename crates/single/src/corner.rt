@@ -3,12 +3,10 @@ ghost use Rattle.std.specs.Prelude.{◌≡◌};
 ghost use Rattle.single.specs.Admitted.{corner_of};
 ghost use Rattle.single.specs.Marks.{point_of};
 
+use plane::{mark, pair};
+
 /// Two numbers that may become a corner.
-#[derive(Clone, Copy, PartialEq, Debug)]
-pub struct Pair {
-    pub x: f32,
-    pub y: f32,
-}
+pub type Pair = pair::Pair<f32>;
 
 /// A corner. Those within 2^59 of the origin on each axis are admitted.
 #[derive(Clone, Copy, PartialEq, Debug)]
@@ -28,13 +26,15 @@ impl From<Pair> for Corner {
     }
 }
 
-/// A position on an edge: inside it, the weights of its two corners, 1 - s and s.
+/// The weights of an edge's two corners at a position inside it: 1 - s and s.
 #[derive(Clone, Copy, PartialEq, Debug)]
-pub enum Mark {
-    Start,
-    Inside(f32, f32),
-    End,
+pub struct Weights {
+    pub before: f32,
+    pub behind: f32,
 }
+
+/// A position on an edge.
+pub type Mark = mark::Mark<Weights>;
 
 /// A point.
 #[derive(Clone, Copy, PartialEq, Debug)]

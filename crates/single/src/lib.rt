@@ -7,7 +7,6 @@ pub mod corner;
 pub mod direction;
 mod math;
 pub mod order;
-pub mod outline;
 pub mod point_in_poly2d;
 pub mod segment;
 pub mod segments_intersection;

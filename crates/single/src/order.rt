@@ -1,6 +1,7 @@
 // Where marks stand on their edge.
 ghost use Rattle.std.specs.Prelude.{◌≡◌};
-ghost use Rattle.single.specs.Marks.{not_after, end_of};
+ghost use Rattle.plane.specs.Marks.{end_of};
+ghost use Rattle.single.specs.Marks.{not_after};
 
 use crate::corner::Mark;
 use crate::segment::centered_bcoords;
@@ -18,9 +19,5 @@ pub fn not_after(m: Mark, n: Mark) -> bool
 pub fn end_of(m: Mark) -> Option<End>
     ensures { result ≡ end_of m }
 {
-    match m {
-        Mark::Start => Some(End::Start),
-        Mark::Inside(_, _) => None,
-        Mark::End => Some(End::Finish),
-    }
+    m.end()
 }

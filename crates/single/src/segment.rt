@@ -2,7 +2,7 @@
 ghost use Rattle.std.specs.Prelude.{◌≡◌};
 ghost use Rattle.single.specs.Marks.{bcoords_of, point_at};
 
-use crate::corner::{Corner, Mark, Point};
+use crate::corner::{Corner, Mark, Point, Weights};
 
 /// How far along its edge a mark stands, from 0 to 1.
 pub(crate) fn centered_bcoords(m: Mark) -> f32
@@ -10,7 +10,7 @@ pub(crate) fn centered_bcoords(m: Mark) -> f32
 {
     match m {
         Mark::Start => 0.0,
-        Mark::Inside(_, s) => s,
+        Mark::Inside(weights) => weights.behind,
         Mark::End => 1.0,
     }
 }
@@ -21,9 +21,9 @@ pub fn to_point(a: Corner, b: Corner, m: Mark) -> Point
 {
     match m {
         Mark::Start => Point::from(a),
-        Mark::Inside(w, s) => Point {
-            x: a.x * w + b.x * s,
-            y: a.y * w + b.y * s,
+        Mark::Inside(Weights { before, behind }) => Point {
+            x: a.x * before + b.x * behind,
+            y: a.y * before + b.y * behind,
         },
         Mark::End => Point::from(b),
     }

@@ -1,11 +1,12 @@
 // Where two edges meet.
 ghost use Rattle.std.specs.Prelude.{◌≡◌};
-ghost use Rattle.single.specs.Meets.{denom_of, num_of, is_parallel, classified, along, between_of, overlap_of, parallel_of, meet_of};
+ghost use Rattle.single.specs.Meets.{denom_of, num_of, is_parallel, classified, along, between_of, parallel_of, meet_of};
 ghost use Rattle.single.specs.Sane.{AllAdmitted, FiniteParts, SaneMeet};
 
-use crate::corner::{Corner, Mark};
+use crate::corner::{Corner, Mark, Weights};
 use crate::triangle::orientation2d;
 use plane::answer::{Meet, Side};
+use plane::mark::overlap;
 
 /// How the edges from a to b and from c to d meet. For admitted corners what is divided is finite,
 /// and the marks are numbers from 0 to 1.
@@ -69,36 +70,6 @@ fn parallel_intersection(a: Corner, b: Corner, c: Corner, d: Corner, epsilon: f3
     )
 }
 
-// By where c and d lie on the edge ab, and a and b on the edge cd: the first pair that is there.
-fn overlap(
-    ab_c: Option<Mark>,
-    ab_d: Option<Mark>,
-    cd_a: Option<Mark>,
-    cd_b: Option<Mark>,
-) -> Meet<Mark>
-    ensures { result ≡ overlap_of ab_c ab_d cd_a cd_b }
-{
-    if let (Some(loc1), Some(loc2)) = (ab_c, ab_d) {
-        return Meet::Overlap(loc1, Mark::Start, loc2, Mark::End);
-    }
-    if let (Some(loc1), Some(loc2)) = (cd_a, cd_b) {
-        return Meet::Overlap(Mark::Start, loc1, Mark::End, loc2);
-    }
-    if let (Some(loc1), Some(loc2)) = (ab_c, cd_b) {
-        return Meet::Overlap(loc1, Mark::Start, Mark::End, loc2);
-    }
-    if let (Some(loc1), Some(loc2)) = (ab_c, cd_a) {
-        return Meet::Overlap(loc1, Mark::Start, Mark::Start, loc2);
-    }
-    if let (Some(loc1), Some(loc2)) = (ab_d, cd_b) {
-        return Meet::Overlap(loc1, Mark::End, Mark::End, loc2);
-    }
-    if let (Some(loc1), Some(loc2)) = (ab_d, cd_a) {
-        return Meet::Overlap(loc1, Mark::End, Mark::Start, loc2);
-    }
-    Meet::Apart
-}
-
 // Where c lies on the edge from a to b, if it does, for c on its line.
 fn between(a: Corner, b: Corner, c: Corner) -> Option<Mark>
     ensures { result ≡ between_of a b c }
@@ -138,6 +109,9 @@ fn classify(bcoord_b: f32) -> Mark
     } else if bcoord_b == 1.0 {
         Mark::End
     } else {
-        Mark::Inside(1.0 - bcoord_b, bcoord_b)
+        Mark::Inside(Weights {
+            before: 1.0 - bcoord_b,
+            behind: bcoord_b,
+        })
     }
 }

@@ -3,13 +3,14 @@ use Rattle.std.proofs.Common.{◌≡◌, ◌<◌, Bool, true, false, cond, not, 
 use lib.Signed.{lt_z, le_z}
 use lib.Ieee.{Float, le, eq, ne}
 use Rattle.std.proofs.lemmas.Int.{ints}
+use Rattle.plane.specs.declared.mark.Mark.{Mark}
+use Rattle.plane.specs.declared.mark.Mark.TheVariants.{Start, Inside, End}
 use Rattle.floats.specs.Operations.{nought, unit, ◌⊖◌, ◌⊘◌}
 use Rattle.floats.specs.Numbers.{IsWhole, same_z}
 use Rattle.floats.specs.Quotients.{outside_z, Placed, Ends}
 use Rattle.floats.proofs.Whole.{compared}
 use Rattle.floats.proofs.Quotients.{placed, rest_placed}
-use Rattle.single.specs.declared.corner.Mark.{Mark}
-use Rattle.single.specs.declared.corner.Mark.TheVariants.{Start, Inside, End}
+use Rattle.single.specs.declared.corner.Weights.{Weights}
 use Rattle.single.specs.Meets.{classified, along}
 use Rattle.whole.specs.Spots.{Place, Nowhere, AtStart, AtEnd, Within, place_z}
 use Rattle.whole.specs.Exact.{place_of, found_at, ExactBetween}
@@ -50,7 +51,7 @@ down_bounds u v w h n = (grind (arith, ints), grind (arith, ints), grind (arith,
 pub mark_place : (q : Float) → place_of (classified q) ≡ cond (eq q nought) AtStart (cond (eq q unit) AtEnd Within)
 mark_place q = by (eq q nought) (eq q unit)
   where
-    by : (s e : Bool) → place_of (cond s Start (cond e End (Inside (unit ⊖ q) q))) ≡ cond s AtStart (cond e AtEnd Within)
+    by : (s e : Bool) → place_of (cond s Start (cond e End (Inside (record { before = unit ⊖ q; behind = q })))) ≡ cond s AtStart (cond e AtEnd Within)
     by true e = refl
     by false true = refl
     by false false = refl
@@ -58,7 +59,7 @@ mark_place q = by (eq q nought) (eq q unit)
 found : (q : Float) (z w : ℤ) → eq q nought ≡ same_z z (pos 0) → eq q unit ≡ same_z z w → outside_z z w ≡ false → found_at (Some (classified q)) ≡ place_z z w
 found q z w s e o = mark_place q ∙ (λ i. cond (sym o i) Nowhere (cond (s i) AtStart (cond (e i) AtEnd Within)))
 
-choose : (x y : Bool) (m n : Option Mark) (p : Place) → (x ≡ true → found_at m ≡ p) → (x ≡ false → y ≡ true → found_at n ≡ p) → (x ≡ false → y ≡ false → Nowhere ≡ p)
+choose : (x y : Bool) (m n : Option (Mark Weights)) (p : Place) → (x ≡ true → found_at m ≡ p) → (x ≡ false → y ≡ true → found_at n ≡ p) → (x ≡ false → y ≡ false → Nowhere ≡ p)
     → found_at (cond x m (cond y n None)) ≡ p
 choose true y m n p f g h = f refl
 choose false true m n p f g h = g refl refl
@@ -97,7 +98,7 @@ ne_is : (x y : Float) (z w : ℤ) → IsWhole x z → IsWhole y w → ne x y ≡
 unfolding ne
 ne_is x y z w p q = ap not (eq_is x y z w p q)
 
-pick : (s t e : Bool) (m n : Option Mark) (p q : Place) → (s ≡ false → found_at m ≡ p) → (t ≡ false → found_at n ≡ q)
+pick : (s t e : Bool) (m n : Option (Mark Weights)) (p q : Place) → (s ≡ false → found_at m ≡ p) → (t ≡ false → found_at n ≡ q)
     → found_at (cond (not s) m (cond (not t) n (cond e (Some Start) None))) ≡ cond (not s) p (cond (not t) q (cond e AtStart Nowhere))
 pick false t e m n p q f g = f refl
 pick true false e m n p q f g = g refl

@@ -5,6 +5,7 @@ use lib.Ieee.Exact.{HasValue}
 use Rattle.std.specs.Float.{float_with_sign}
 use Rattle.std.proofs.lemmas.Bool.{ne_eqb}
 use Rattle.plane.specs.declared.answer.Meet.TheVariants.{Apart, Crossing}
+use Rattle.plane.specs.declared.mark.Mark.{Mark}
 use Rattle.floats.specs.Operations.{nought, unit, ◌⊖◌, ◌⊗◌, ◌⊘◌}
 use Rattle.floats.specs.Numbers.{IsWhole}
 use Rattle.floats.specs.Quotients.{Placed}
@@ -13,8 +14,8 @@ use Rattle.floats.proofs.Order.{le_then_le, lt_implies_le, never_both}
 use Rattle.floats.proofs.Whole.{compared, nought_whole, unit_whole}
 use Rattle.floats.proofs.Quotients as quotients
 use Rattle.single.specs.declared.corner.Corner.{Corner}
-use Rattle.single.specs.declared.corner.Mark.{Mark}
-use Rattle.single.specs.Meets.{ulp, is_parallel, denom_of, num1_of, num2_of, is_out, classified, crossing_of, parallel_of}
+use Rattle.single.specs.declared.corner.Weights.{Weights}
+use Rattle.single.specs.Meets.{ulp, is_parallel, denom_of, num_of, num1_of, num2_of, is_out, classified, crossing_of, parallel_of}
 use Rattle.whole.specs.Spots.{Spot, denom_z, num1_z, num2_z}
 use Rattle.whole.specs.Exact.{WholeCorner, is_apart, ExactParallel, ExactCrossing}
 use Rattle.whole.proofs.Sizes.{Near, plus, less, times, turned}
@@ -41,28 +42,16 @@ module _ (a b c d : Corner) (i j k l : Spot) (A : WholeCorner a i) (B : WholeCor
       (term _ _ _ _ _ _ s.on_x q.on_y p.on_y) (lit≤ tt))
       (term _ _ _ _ _ _ r.on_x p.on_y q.on_y) (lit≤ tt)
 
-pub num1_whole : (a c d : Corner) (i k l : Spot) → WholeCorner a i → WholeCorner c k → WholeCorner d l → IsWhole (num1_of a c d) (num1_z i k l)
-num1_whole a c d i k l A C D =
-    let p = corner a i A in
-    let r = corner c k C in
-    let s = corner d l D in
-    (plus _ _ _ _ (2 ^ 21 + 2 ^ 21) (2 ^ 21)
+num_near : (p q r : Corner) (i j k : Spot) → WholeCorner p i → WholeCorner q j → WholeCorner r k → Near (num_of p q r) (num1_z i j k) (2 ^ 21 + 2 ^ 21 + 2 ^ 21)
+num_near p q r i j k P Q R =
+    let u = corner p i P in
+    let v = corner q j Q in
+    let w = corner r k R in
+    plus _ _ _ _ (2 ^ 21 + 2 ^ 21) (2 ^ 21)
     (plus _ _ _ _ (2 ^ 21) (2 ^ 21)
-    (term _ _ _ _ _ _ p.on_x s.on_y r.on_y)
-    (term _ _ _ _ _ _ r.on_x p.on_y s.on_y) (lit≤ tt))
-    (term _ _ _ _ _ _ s.on_x r.on_y p.on_y) (lit≤ tt)).whole
-
-pub num2_whole : (a b c : Corner) (i j k : Spot) → WholeCorner a i → WholeCorner b j → WholeCorner c k → IsWhole (num2_of a b c) (num2_z i j k)
-num2_whole a b c i j k A B C =
-    let p = corner a i A in
-    let q = corner b j B in
-    let r = corner c k C in
-    (turned _ _ (2 ^ 21 + 2 ^ 21 + 2 ^ 21)
-    (plus _ _ _ _ (2 ^ 21 + 2 ^ 21) (2 ^ 21)
-    (plus _ _ _ _ (2 ^ 21) (2 ^ 21)
-    (term _ _ _ _ _ _ p.on_x r.on_y q.on_y)
-    (term _ _ _ _ _ _ q.on_x p.on_y r.on_y) (lit≤ tt))
-    (term _ _ _ _ _ _ r.on_x q.on_y p.on_y) (lit≤ tt))).whole
+    (term _ _ _ _ _ _ u.on_x w.on_y v.on_y)
+    (term _ _ _ _ _ _ v.on_x u.on_y w.on_y) (lit≤ tt))
+    (term _ _ _ _ _ _ w.on_x v.on_y u.on_y) (lit≤ tt)
 
 -- ---- only 0 counts as the D of parallel edges
 
@@ -118,10 +107,10 @@ exact_parallel epsilon e v z p =
 
 module _ (a b c d : Corner) (i j k l : Spot) (A : WholeCorner a i) (B : WholeCorner b j) (C : WholeCorner c k) (D : WholeCorner d l) (h : 0 < nat_abs (denom_z i j k l)) where
   pub s_placed : Placed (num1_of a c d ⊘ denom_of a b c d) (num1_z i k l) (denom_z i j k l)
-  s_placed = let n = denom-near a b c d i j k l A B C D in quotients.placed _ _ _ _ (num1_whole a c d i k l A C D) n.whole h n.near
+  s_placed = let n = denom-near a b c d i j k l A B C D in quotients.placed _ _ _ _ (num_near a c d i k l A C D).whole n.whole h n.near
 
   pub t_placed : Placed (num2_of a b c ⊘ denom_of a b c d) (num2_z i j k) (denom_z i j k l)
-  t_placed = let n = denom-near a b c d i j k l A B C D in quotients.placed _ _ _ _ (num2_whole a b c i j k A B C) n.whole h n.near
+  t_placed = let n = denom-near a b c d i j k l A B C D in quotients.placed _ _ _ _ (turned _ _ _ (num_near a b c i j k A B C)).whole n.whole h n.near
 
 pub or_apart : (p q r s : Bool) → (p || q || r || s) ≡ ((p || q) || (r || s))
 or_apart true q r s = refl
@@ -139,6 +128,6 @@ exact_crossing epsilon e a b c d i j k l A B C D h =
     ∙ or_apart (lt s nought) (lt unit s) (lt t nought) (lt unit t)
     ∙ (λ u. (s_placed a b c d i j k l A B C D h).out u || (t_placed a b c d i j k l A B C D h).out u)
   where
-    apart : (o : Bool) (m n : Mark) → is_apart (cond o Apart (Crossing m n)) ≡ o
+    apart : (o : Bool) (m n : Mark Weights) → is_apart (cond o Apart (Crossing m n)) ≡ o
     apart true m n = refl
     apart false m n = refl

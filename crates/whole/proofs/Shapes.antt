@@ -4,38 +4,40 @@ use lib.Ieee.{Float, lt}
 use Rattle.std.proofs.lemmas.Bool.Decides.{nat_tests}
 use Rattle.plane.specs.declared.answer.Meet.{Meet}
 use Rattle.plane.specs.declared.answer.Meet.TheVariants.{Apart, Crossing}
+use Rattle.plane.specs.declared.mark.Mark.{Mark}
+use Rattle.plane.specs.declared.mark.Mark.TheVariants.{Start, Inside, End}
+use Rattle.plane.specs.Marks.{both, overlap_of}
 use Rattle.floats.specs.Operations.{nought, unit, ◌⊘◌}
 use Rattle.floats.specs.Numbers.{same_z}
 use Rattle.floats.specs.Quotients.{outside_z, Placed}
 use Rattle.single.specs.declared.corner.Corner.{Corner}
-use Rattle.single.specs.declared.corner.Mark.{Mark}
-use Rattle.single.specs.declared.corner.Mark.TheVariants.{Start, Inside, End}
+use Rattle.single.specs.declared.corner.Weights.{Weights}
 use Rattle.single.specs.Triangle.{orientation_of}
-use Rattle.single.specs.Meets.{denom_of, num1_of, num2_of, is_level, is_out, classified, crossing_of, both, overlap_of, parallel_of, between_of}
+use Rattle.single.specs.Meets.{denom_of, num1_of, num2_of, is_level, is_out, classified, crossing_of, parallel_of, between_of}
 use Rattle.whole.specs.Spots.{Spot, area_z, side_z, Place, Nowhere, AtStart, AtEnd, Within, place_z, Shape, Separate, Crosses, Overlaps, denom_z, num1_z, num2_z, is_there, if_both, overlap_z, crossing_z, parallel_z}
 use Rattle.whole.specs.Exact.{WholeCorner, Slight, place_of, found_at, shape_of, ExactMeet}
 use Rattle.whole.proofs.Sides.{exact_side}
 use Rattle.whole.proofs.Meets.{denom-near, exact_parallel, s_placed, t_placed, or_apart}
 use Rattle.whole.proofs.Between.{mark_place, exact_between}
 
-shape_cond : (b : Bool) (m n : Meet Mark) → shape_of (cond b m n) ≡ cond b (shape_of m) (shape_of n)
+shape_cond : (b : Bool) (m n : Meet (Mark Weights)) → shape_of (cond b m n) ≡ cond b (shape_of m) (shape_of n)
 shape_cond true m n = refl
 shape_cond false m n = refl
 
-mark_there : (m : Mark) → is_there (place_of m) ≡ true
+mark_there : (m : Mark Weights) → is_there (place_of m) ≡ true
 mark_there Start = refl
-mark_there (Inside w s) = refl
+mark_there (Inside w) = refl
 mark_there End = refl
 
 -- ---- parallel edges
 
-both_shape : (p q : Option Mark) (f : Mark → Mark → Meet Mark) (s : Place → Place → Shape) (rest : Meet Mark) (r : Shape)
-    → ((m n : Mark) → shape_of (f m n) ≡ s (place_of m) (place_of n)) → shape_of rest ≡ r → shape_of (both p q f rest) ≡ if_both (found_at p) (found_at q) (s (found_at p) (found_at q)) r
+both_shape : (p q : Option (Mark Weights)) (f : Mark Weights → Mark Weights → Meet (Mark Weights)) (s : Place → Place → Shape) (rest : Meet (Mark Weights)) (r : Shape)
+    → ((m n : Mark Weights) → shape_of (f m n) ≡ s (place_of m) (place_of n)) → shape_of rest ≡ r → shape_of (both p q f rest) ≡ if_both (found_at p) (found_at q) (s (found_at p) (found_at q)) r
 both_shape None q f s rest r h e = e
 both_shape (Some m) None f s rest r h e = e ∙ (λ i. cond (sym (mark_there m) i && false) (s (place_of m) Nowhere) r)
 both_shape (Some m) (Some n) f s rest r h e = h m n ∙ (λ i. cond (sym (mark_there m) i && sym (mark_there n) i) (s (place_of m) (place_of n)) r)
 
-overlap_shape : (c d a b : Option Mark) → shape_of (overlap_of c d a b) ≡ overlap_z (found_at c) (found_at d) (found_at a) (found_at b)
+overlap_shape : (c d a b : Option (Mark Weights)) → shape_of (overlap_of c d a b) ≡ overlap_z (found_at c) (found_at d) (found_at a) (found_at b)
 overlap_shape c d a b =
     both_shape c d _ (λ p q. Overlaps p AtStart q AtEnd) _ _ (λ _ _. refl)
     (both_shape a b _ (λ p q. Overlaps AtStart p AtEnd q) _ _ (λ _ _. refl)

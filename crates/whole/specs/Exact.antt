@@ -1,16 +1,18 @@
 -- On whole corners within 1,024 single precision answers as whole numbers do. Assumes nothing.
-use Rattle.std.specs.Prelude.{◌≡◌, ℕ, ◌<◌, ◌≤◌, Bool, true, false, ◌||◌, T, List, [], ◌∷◌, ℤ, pos, Some, None, Option, ◌==◌, int_lt, unsigned_abs, Float}
+use Rattle.std.specs.Prelude.{◌≡◌, ℕ, ◌<◌, ◌≤◌, Bool, true, false, ◌||◌, T, List, ℤ, pos, Some, None, Option, ◌==◌, int_lt, unsigned_abs, Float}
+use Rattle.std.specs.List.{AllZip}
 use Rattle.std.specs.Float.Ieee.{lt, le}
 use Rattle.plane.specs.declared.answer.Meet.{Meet}
 use Rattle.plane.specs.declared.answer.Meet.TheVariants.{Apart, Crossing, Overlap}
+use Rattle.plane.specs.declared.mark.Mark.{Mark}
+use Rattle.plane.specs.declared.mark.Mark.TheVariants.{Start, Inside, End}
 use Rattle.plane.specs.Rings.{inside}
 use Rattle.floats.specs.Operations.{nought, unit}
 use Rattle.floats.specs.Numbers.{IsWhole}
 use Rattle.floats.specs.Quotients.{outside_z}
 use Rattle.single.specs.declared.tolerance.Single.{Single}
 use Rattle.single.specs.declared.corner.Corner.{Corner}
-use Rattle.single.specs.declared.corner.Mark.{Mark}
-use Rattle.single.specs.declared.corner.Mark.TheVariants.{Start, Inside, End}
+use Rattle.single.specs.declared.corner.Weights.{Weights}
 use Rattle.single.specs.Tolerance.{walking}
 use Rattle.single.specs.Triangle.{orientation_of, turn_of, against_of, passed_of}
 use Rattle.single.specs.Meets.{is_parallel, between_of, meet_of}
@@ -58,7 +60,7 @@ ExactAgainst =
 abbrev pub ExactParallel : Type 0
 ExactParallel = (epsilon : Float) → Slight epsilon → (v : Float) (z : ℤ) → IsWhole v z → is_parallel v epsilon ≡ (unsigned_abs z == 0)
 
-abbrev pub is_apart : Meet Mark → Bool
+abbrev pub is_apart : Meet (Mark Weights) → Bool
 is_apart Apart = true
 is_apart (Crossing m n) = false
 is_apart (Overlap m n o p) = false
@@ -71,12 +73,12 @@ ExactCrossing =
     → is_apart (meet_of a b c d epsilon) ≡ (outside_z (num1_z i k l) (denom_z i j k l) || outside_z (num2_z i j k) (denom_z i j k l))
 
 -- where a mark stands
-abbrev pub place_of : Mark → Place
+abbrev pub place_of : Mark Weights → Place
 place_of Start = AtStart
-place_of (Inside w s) = Within
+place_of (Inside w) = Within
 place_of End = AtEnd
 
-abbrev pub found_at : Option Mark → Place
+abbrev pub found_at : Option (Mark Weights) → Place
 found_at None = Nowhere
 found_at (Some m) = place_of m
 
@@ -86,7 +88,7 @@ ExactBetween =
     (a b c : Corner) (i j k : Spot) → WholeCorner a i → WholeCorner b j → WholeCorner c k
     → found_at (between_of a b c) ≡ between_z i j k
 
-abbrev pub shape_of : Meet Mark → Shape
+abbrev pub shape_of : Meet (Mark Weights) → Shape
 shape_of Apart = Separate
 shape_of (Crossing m n) = Crosses (place_of m) (place_of n)
 shape_of (Overlap m n o p) = Overlaps (place_of m) (place_of n) (place_of o) (place_of p)
@@ -103,10 +105,7 @@ ExactPassed = (p a b : Corner) (i j k : Spot) → WholeCorner p i → WholeCorne
 
 -- a ring of such corners, in order
 abbrev pub WholeRing : List Corner → List Spot → Type 0
-WholeRing [] [] = Unit {0}
-WholeRing [] (z ∷ zs) = ⊥
-WholeRing (c ∷ cs) [] = ⊥
-WholeRing (c ∷ cs) (z ∷ zs) = WholeCorner c z × WholeRing cs zs
+WholeRing = AllZip WholeCorner
 
 -- and so the inside test is exact
 abbrev pub ExactInside : Type 0

@@ -1,8 +1,8 @@
 -- What whole numbers answer: sides, meetings and the inside test without rounding. Assumes nothing.
-use Rattle.std.specs.Prelude.{◌%◌, Bool, true, false, cond, not, ◌&&◌, List, ℤ, pos, ◌+ℤ◌, ◌-ℤ◌, ◌*ℤ◌, neg_ℤ, ◌==◌, int_le, int_lt, unsigned_abs}
+use Rattle.std.specs.Prelude.{◌%◌, Bool, true, false, cond, not, ◌&&◌, List, count_by, ℤ, pos, ◌+ℤ◌, ◌-ℤ◌, ◌*ℤ◌, neg_ℤ, ◌==◌, int_le, int_lt, unsigned_abs}
 use Rattle.plane.specs.declared.answer.Side.{Side}
 use Rattle.plane.specs.declared.answer.Side.TheVariants.{Left, Right, Level}
-use Rattle.plane.specs.Rings.{edges, how_many}
+use Rattle.plane.specs.Rings.{edges}
 use Rattle.floats.specs.Numbers.{same_z}
 use Rattle.floats.specs.Quotients.{outside_z}
 use Rattle.single.specs.Meets.{is_level}
@@ -108,4 +108,4 @@ passed_z p a b = cond (int_le a.y p.y) (int_lt p.y b.y && int_lt (perp_z (minus_
 
 -- a point lies inside a ring where an odd number of its edges count for the point
 abbrev pub inside_z : Spot → List Spot → Bool
-inside_z p ring = how_many (λ e. passed_z p e.from e.to) (edges ring) % 2 == 1
+inside_z p ring = count_by (λ e. passed_z p e.from e.to) (edges ring) % 2 == 1

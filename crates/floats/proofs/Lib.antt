@@ -1,5 +1,4 @@
 pub mod Fractions
-pub mod Places
 pub mod Order
 pub mod Sums
 pub mod Products

@@ -7,6 +7,7 @@ use lib.Ieee.Scale.{round_same}
 use lib.Ieee.Order.{round_mono}
 use lib.Ieee.Positive.{positive, between, sub_anti}
 use Rattle.std.proofs.lemmas.Bool.{cases_order, cases_eq, ne_eqb, eq-eqb, lt-ltb, le-ltb}
+use Rattle.std.proofs.lemmas.Float.{le_of_lt, lt_of_lt_of_le, lt_of_le_of_lt}
 use Rattle.std.proofs.lemmas.Int.{ints}
 use Rattle.floats.specs.Operations.{◌⊖◌, nought, unit}
 use Rattle.floats.specs.Numbers.{signed, same_z}
@@ -14,7 +15,7 @@ use Rattle.floats.specs.Quotients.{outside_z, Ends, QuotientPlaced, RestPlaced}
 use Rattle.floats.proofs.Fractions.{signed-size}
 use Rattle.floats.proofs.Products.{div_value}
 use Rattle.floats.proofs.Turned.{lt_turned, round_turned}
-use Rattle.floats.proofs.Order.{lt_then_le, le_then_lt, lt_implies_le, not_below, below_not_level, above_not_level}
+use Rattle.floats.proofs.Order.{not_below, below_not_level, above_not_level}
 
 -- ---- the steps next to 0 and 1
 
@@ -86,13 +87,13 @@ module _ (a b : ℕ) (B : 0 < b) where
 -- for divisors up to 2 ^ 23
 module _ (a b : ℕ) (B : 0 < b) (small : b ≤ 2 ^ 23) where
   above_nought : 0 < a → T (lt nought (Q a b))
-  above_nought h = lt_then_le nought (Q 1 (2 ^ 23)) (Q a b) least_above (round_mono binary32 1 (2 ^ 23) a b (lit< tt) B (omega arith))
+  above_nought h = lt_of_lt_of_le nought (Q 1 (2 ^ 23)) (Q a b) least_above (round_mono binary32 1 (2 ^ 23) a b (lit< tt) B (omega arith))
 
   below_unit : a < b → T (lt (Q a b) unit)
-  below_unit h = le_then_lt (Q a b) (Q 8388607 (2 ^ 23)) unit (round_mono binary32 a b 8388607 (2 ^ 23) B (lit< tt) (omega arith)) most_below
+  below_unit h = lt_of_le_of_lt (Q a b) (Q 8388607 (2 ^ 23)) unit (round_mono binary32 a b 8388607 (2 ^ 23) B (lit< tt) (omega arith)) most_below
 
   above_unit : b < a → T (lt unit (Q a b))
-  above_unit h = lt_then_le unit (Q 8388609 (2 ^ 23)) (Q a b) next_above (round_mono binary32 8388609 (2 ^ 23) a b (lit< tt) B (omega arith))
+  above_unit h = lt_of_lt_of_le unit (Q 8388609 (2 ^ 23)) (Q a b) next_above (round_mono binary32 8388609 (2 ^ 23) a b (lit< tt) B (omega arith))
 
   starts : eq (Q a b) nought ≡ eqb a 0
   starts = elim (eq-zero-or-pos a) [
@@ -123,14 +124,14 @@ module _ (a b : ℕ) (B : 0 < b) (small : b ≤ 2 ^ 23) where
   turned_before : lt (neg (Q a b)) nought ≡ ltb 0 a
   turned_before = (lt_turned (Q a b) nought).0 ∙ elim (eq-zero-or-pos a) [
     | inl e ↦ ap (lt (neg nought)) (at_nought a b B e) ∙ minus_not_below ∙ sym (le-ltb 0 a (omega arith))
-    | inr h ↦ is_true (lt (neg nought) (Q a b)) (le_then_lt (neg nought) nought (Q a b) minus-up_to (above_nought h)) ∙ sym (lt-ltb 0 a h)
+    | inr h ↦ is_true (lt (neg nought) (Q a b)) (lt_of_le_of_lt (neg nought) nought (Q a b) minus-up_to (above_nought h)) ∙ sym (lt-ltb 0 a h)
   ]
 
   under-unit : T (lt (neg (Q a b)) unit)
-  under-unit = subst T (sym (lt_turned (Q a b) unit).0) (lt_then_le (neg unit) nought (Q a b) minus-unit_below (from_nought a b B))
+  under-unit = subst T (sym (lt_turned (Q a b) unit).0) (lt_of_lt_of_le (neg unit) nought (Q a b) minus-unit_below (from_nought a b B))
 
   turned_beyond : lt unit (neg (Q a b)) ≡ false
-  turned_beyond = not_below unit (neg (Q a b)) (lt_implies_le (neg (Q a b)) unit under-unit)
+  turned_beyond = not_below unit (neg (Q a b)) (le_of_lt (neg (Q a b)) unit under-unit)
 
   turned_starts : eq (neg (Q a b)) nought ≡ eqb a 0
   turned_starts = elim (eq-zero-or-pos a) [
@@ -239,8 +240,8 @@ module _ (a b : ℕ) (B : 0 < b) (small : b ≤ 2048) where
       let under : T (le (Q a b) unit) = to_unit a b B (omega arith) in
       let last_under : T (le (Q 2047 2048) unit) = to_unit 2047 2048 (lit< tt) (lit≤ tt) in
       record {
-        at_nought = above_not_level (unit ⊖ Q a b) nought (lt_then_le nought (unit ⊖ Q 2047 2048) (unit ⊖ Q a b) clear_of_nought (sub_anti binary32 unit (Q a b) (Q 2047 2048) unit_positive p last_positive high last_under));
-        at_unit = below_not_level (unit ⊖ Q a b) unit (le_then_lt (unit ⊖ Q a b) (unit ⊖ Q 1 2048) unit (sub_anti binary32 unit (Q 1 2048) (Q a b) unit_positive first_positive p low under) short_of_unit);
+        at_nought = above_not_level (unit ⊖ Q a b) nought (lt_of_lt_of_le nought (unit ⊖ Q 2047 2048) (unit ⊖ Q a b) clear_of_nought (sub_anti binary32 unit (Q a b) (Q 2047 2048) unit_positive p last_positive high last_under));
+        at_unit = below_not_level (unit ⊖ Q a b) unit (lt_of_le_of_lt (unit ⊖ Q a b) (unit ⊖ Q 1 2048) unit (sub_anti binary32 unit (Q 1 2048) (Q a b) unit_positive first_positive p low under) short_of_unit);
       }
 
   rest_at : a ≤ b → Ends (unit ⊖ Q a b) (eqb a b) (eqb a 0)

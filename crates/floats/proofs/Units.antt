@@ -1,5 +1,5 @@
 -- Parts of a difference stay from 0 to 1. Assumes nothing.
-use Rattle.std.proofs.Common.{◌≡◌, ℕ, zero, suc, ◌+◌, ◌-◌, ◌*◌, ◌%◌, ◌^◌, ◌<◌, ◌≤◌, Bool, true, false, ◌&&◌, T, eqb, ltb, leb, ℤ, pos, negsuc, ◌-ℤ◌, sym, refl, ap, ◌∙◌, subst, inl, inr, lt_of_lt_of_le, lt_irrefl, mul-le-mul_right, mul-pos, arith, lit<, ltb→lt, leb→le, pow-add}
+use Rattle.std.proofs.Common.{◌≡◌, ℕ, zero, suc, ◌+◌, ◌-◌, ◌*◌, ◌%◌, ◌^◌, ◌<◌, ◌≤◌, Bool, true, false, ◌&&◌, T, eqb, ltb, leb, ℤ, pos, negsuc, ◌-ℤ◌, sym, refl, ap, ◌∙◌, subst, inl, inr, mul-le-mul_right, mul-pos, arith, lit<, ltb→lt, leb→le, pow-add}
 use mathlib.Core.Bool.{false≢true}
 use lib.Signed.{lt_z, le_z}
 use lib.Pow.{pow-lt}
@@ -7,6 +7,7 @@ use lib.Ieee.{Float, nan, inf, fin, binary32, up, down, unlike, round, neg, lt, 
 use lib.Ieee.Fits.{down_pos, and_l, and_r}
 use lib.Ieee.Exact.{HasValue}
 use lib.Ieee.Order.{round_mono}
+use Rattle.std.proofs.lemmas.Float.{le_trans, lt_of_lt_of_le}
 use Rattle.std.proofs.lemmas.Int.{ints}
 use Rattle.std.proofs.lemmas.Bool.{cases_lt}
 use Rattle.floats.specs.Operations.{◌⊖◌, ◌⊘◌, nought, unit}
@@ -17,7 +18,6 @@ use Rattle.floats.proofs.Fractions.{lt_fraction, le_fraction}
 use Rattle.floats.proofs.Sums.{sub_rounded}
 use Rattle.floats.proofs.Products.{div_value}
 use Rattle.floats.proofs.Turned.{round_turned}
-use Rattle.floats.proofs.Order.{le_then_le, lt_then_le}
 use Rattle.floats.proofs.Quotients.{Q, from_nought, to_unit, at_nought}
 
 -- ---- a fraction that is not below 0, rounded: with a minus sign only where it is 0
@@ -36,7 +36,7 @@ round_from_nought true a c C h = subst (λ (x : Float). T (le nought x)) (sym (m
 round_ordered : (s t : Bool) (a b c : ℕ) → 0 < c → (s ≡ true → a ≡ 0) → (t ≡ true → b ≡ 0) → a ≤ b → T (le (round binary32 s a c) (round binary32 t b c))
 round_ordered false false a b c C f g h = round_mono binary32 a c b c C C (omega (arith, mul-le-mul_right c h))
 round_ordered true t a b c C f g h =
-    subst (λ (x : Float). T (le x (round binary32 t b c))) (sym (minus_is a c C (f refl))) (le_then_le (neg nought) nought (round binary32 t b c) minus-up_to.0 (round_from_nought t b c C g))
+    subst (λ (x : Float). T (le x (round binary32 t b c))) (sym (minus_is a c C (f refl))) (le_trans (neg nought) nought (round binary32 t b c) minus-up_to.0 (round_from_nought t b c C g))
 round_ordered false true a b c C f g h =
     subst (λ (x : Float). T (le (Q a c) x)) (sym (minus_is b c C (g refl)))
     (subst (λ (x : Float). T (le x (neg nought))) (sym (at_nought a c C (omega (arith, g refl)))) minus-up_to.1)
@@ -47,7 +47,7 @@ round_in_unit s a c C f h = record { low = round_from_nought s a c C f; high = h
   where
     high : (s : Bool) → (s ≡ true → a ≡ 0) → T (le (round binary32 s a c) unit)
     high false f = to_unit a c C h
-    high true f = subst (λ (x : Float). T (le x unit)) (sym (minus_is a c C (f refl))) (le_then_le (neg nought) nought unit minus-up_to.0 minus-up_to.2)
+    high true f = subst (λ (x : Float). T (le x unit)) (sym (minus_is a c C (f refl))) (le_trans (neg nought) nought unit minus-up_to.0 minus-up_to.2)
 
 -- a number that is not below 0 has a minus sign only where it is 0
 clear : (s : Bool) (n : ℕ) → T (le_z (pos 0) (signed s n)) → s ≡ true → n ≡ 0
@@ -146,7 +146,7 @@ multiple s (suc m) (negsuc k) h =
     (suc m * 2 ^ (149 - suc k), split (149 - suc k) (suc k) (suc m) (omega arith))
   where
     exponent : (i : ℕ) → 2 ^ i ≤ 2 ^ 149 → i ≤ 149
-    exponent i h = elim (cases_lt 149 i) [ inl l ↦ absurd (lt_irrefl (2 ^ 149) (lt_of_lt_of_le (pow-lt l) h)) | inr l ↦ l ]
+    exponent i h = elim (cases_lt 149 i) [ inl l ↦ absurd (omega (arith, pow-lt l, h)) | inr l ↦ l ]
 
     split : (i j n : ℕ) → i + j ≡ 149 → n * 1 * 2 ^ 149 ≡ n * 2 ^ i * 2 ^ j
     split i j n e = ap (λ (k : ℕ). n * 1 * 2 ^ k) (sym e) ∙ ap (λ (k : ℕ). n * 1 * k) (pow-add 2 i j) ∙ omega arith
@@ -184,7 +184,7 @@ step_some u v f g j k p q h = on u v f g (within_finite j u p) (within_finite k 
         let r = sub_rounded binary32 (fin t n d) (fin s m e) (signed t b.0) (signed s a.0) c C y x in
         let w = positive_parts r.sign r.size (subst (λ (z : ℤ). T (lt_z (pos 0) z)) r.is (gap (signed s a.0) (signed t b.0) (subst T (lt_fraction (fin s m e) (fin t n d) _ _ c C x y) h))) in
         subst (λ (z : Float). T (lt nought z)) (sym (r.rounds ∙ ap (λ (z : Bool). round binary32 z r.size c) w.0))
-        (lt_then_le nought (Q 1 c) (Q r.size c) least (round_mono binary32 1 c r.size c C C (omega (arith, mul-le-mul_right c w.1))))
+        (lt_of_lt_of_le nought (Q 1 c) (Q r.size c) least (round_mono binary32 1 c r.size c C C (omega (arith, mul-le-mul_right c w.1))))
 
 -- ---- parts
 

@@ -6,6 +6,7 @@ use lib.Ieee.Fits.{down_pos}
 use lib.Ieee.Bits.{is_true}
 use Rattle.std.specs.Float.{float_with_sign}
 use Rattle.std.proofs.lemmas.Int.{ints}
+use Rattle.std.proofs.lemmas.Float.{le_trans, le_of_not-lt}
 use Rattle.std.proofs.lemmas.Bool.{cases_Bool, cond_both, and_parts, or_parts, both_ways, not-true}
 use Rattle.plane.specs.declared.answer.Meet.{Meet}
 use Rattle.plane.specs.declared.answer.Meet.TheVariants.{Apart, Crossing}
@@ -16,7 +17,7 @@ use Rattle.floats.specs.Operations.{◌⊖◌, ◌⊘◌, nought, unit}
 use Rattle.floats.specs.Numbers.{signed, IsFraction}
 use Rattle.floats.specs.Bounds.{Within}
 use Rattle.floats.specs.Units.{InUnit}
-use Rattle.floats.proofs.Order.{le_then_le, up_to_unless_below, le_not_level, eq_turned}
+use Rattle.floats.proofs.Order.{le_not_level, eq_turned}
 use Rattle.floats.proofs.Fractions.{eq_fraction, le_fraction}
 use Rattle.floats.proofs.Bounds.{difference_bounded, quotient_number}
 use Rattle.floats.proofs.Units.{steps_ordered, step_some, part_in_unit, rest_in_unit, nought_fraction}
@@ -57,7 +58,7 @@ small : (k : ℕ) (v : Float) → Within k v → eq v nought ≡ true → le (fl
 unfolding float_with_sign
 small k nan w h = absurd w
 small k (inf s) w h = absurd w
-small k (fin s m e) w h = is_true (le (fin false m e) ulp) (le_then_le (fin false m e) nought ulp low nought-ulp)
+small k (fin s m e) w h = is_true (le (fin false m e) ulp) (le_trans (fin false m e) nought ulp low nought-ulp)
   where
     none : (s : Bool) (n : ℕ) → (not (lt_z (signed s n) (pos 0)) && not (lt_z (pos 0) (signed s n))) ≡ true → n ≡ 0
     none false n g = grind (arith, ints)
@@ -81,8 +82,8 @@ not_level k v epsilon w h =
 
 within_unit : (q : Float) → is_nan q ≡ false → lt q nought ≡ false → lt unit q ≡ false → InUnit q
 within_unit q n l h = record {
-  low = up_to_unless_below q nought (fails (is_nan q) n) nought-number (fails (lt q nought) l);
-  high = up_to_unless_below unit q unit-number (fails (is_nan q) n) (fails (lt unit q) h);
+  low = le_of_not-lt q nought (fails (is_nan q) n) nought-number (fails (lt q nought) l);
+  high = le_of_not-lt unit q unit-number (fails (is_nan q) n) (fails (lt unit q) h);
 }
 
 crossing_sane : (s t : Float) → is_nan s ≡ false → is_nan t ≡ false → SaneMeet (crossing_of s t)
@@ -109,7 +110,7 @@ part_sane : (u w v : Float) → T (fits binary32 u) → T (fits binary32 v) → 
 part_sane u w v f g U V n p q =
     let s = steps_ordered u w v 59 59 U V p q in
     part_in_unit (w ⊖ u) (v ⊖ u) 60 (difference_bounded v u 59 (lit< tt) V U) s.forth s.short
-    (step_some u v f g 59 59 U V (le_not_level u v (le_then_le u w v p q) n))
+    (step_some u v f g 59 59 U V (le_not_level u v (le_trans u w v p q) n))
 
 along_sane : (u v w : Float) → T (fits binary32 u) → T (fits binary32 v) → Within 59 u → Within 59 v → eq u v ≡ false → SaneFound (along u v w)
 along_sane u v w f g U V n =

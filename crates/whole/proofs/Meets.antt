@@ -3,6 +3,7 @@ use Rattle.std.proofs.Common.{◌≡◌, ℕ, ◌+◌, ◌^◌, ◌<◌, ◌≤�
 use lib.Ieee.{Float, nan, inf, fin, lt, le, of_bits}
 use lib.Ieee.Exact.{HasValue}
 use Rattle.std.specs.Float.{float_with_sign}
+use Rattle.std.proofs.lemmas.Float.{le_trans, le_of_lt}
 use Rattle.std.proofs.lemmas.Bool.{ne_eqb}
 use Rattle.plane.specs.declared.answer.Meet.TheVariants.{Apart, Crossing}
 use Rattle.plane.specs.declared.mark.Mark.{Mark}
@@ -10,7 +11,7 @@ use Rattle.floats.specs.Operations.{nought, unit, ◌⊖◌, ◌⊗◌, ◌⊘�
 use Rattle.floats.specs.Numbers.{IsWhole}
 use Rattle.floats.specs.Quotients.{Placed}
 use Rattle.floats.proofs.Fractions.{signed-size}
-use Rattle.floats.proofs.Order.{le_then_le, lt_implies_le, never_both}
+use Rattle.floats.proofs.Order.{never_both}
 use Rattle.floats.proofs.Whole.{compared, nought_whole, unit_whole}
 use Rattle.floats.proofs.Quotients as quotients
 use Rattle.single.specs.declared.corner.Corner.{Corner}
@@ -90,9 +91,9 @@ exact_parallel epsilon e v z p =
     let w = float_with_sign false v in
     let q = size_whole v z p in
     by_both (is_parallel v epsilon) (eqb (nat_abs z) 0)
-    (λ t. or_right (lt w epsilon) (le w ulp) (le_then_le w nought ulp (subst T (sym (compared w nought (pos (nat_abs z)) (pos 0) q nought_whole).up_to) (none t)) nought-ulp))
+    (λ t. or_right (lt w epsilon) (le w ulp) (le_trans w nought ulp (subst T (sym (compared w nought (pos (nat_abs z)) (pos 0) q nought_whole).up_to) (none t)) nought-ulp))
     (λ n. let k : T (le unit w) = subst T (sym (compared unit w (pos 1) (pos (nat_abs z)) unit_whole q).up_to) (some n) in
-    or_none (lt w epsilon) (le w ulp) (λ t. never_both epsilon unit e.1 (le_then_le unit w epsilon k (lt_implies_le w epsilon t))) (λ t. never_both ulp unit ulp-unit (le_then_le unit w ulp k t)))
+    or_none (lt w epsilon) (le w ulp) (λ t. never_both epsilon unit e.1 (le_trans unit w epsilon k (le_of_lt w epsilon t))) (λ t. never_both ulp unit ulp-unit (le_trans unit w ulp k t)))
   where
     none : T (eqb (nat_abs z) 0) → T (leb (nat_abs z) 0)
     none t = le→leb (nat_abs z) 0 (omega (arith, eqb→eq (nat_abs z) 0 t))

@@ -3,11 +3,12 @@ use Rattle.std.proofs.Common.{◌≡◌, ℕ, ◌+◌, ◌^◌, ◌≤◌, Bool,
 use lib.IntN.{+ℤ_idr}
 use lib.Signed.{lt_z, le_z}
 use lib.Ieee.{Float, neg, lt, le, of_bits}
+use Rattle.std.proofs.lemmas.Float.{le_trans, lt_of_lt_of_le}
 use Rattle.std.proofs.lemmas.Int.{ints}
 use Rattle.plane.specs.declared.answer.Side.TheVariants.{Left, Right, Level}
 use Rattle.floats.specs.Operations.{nought, unit}
 use Rattle.floats.specs.Numbers.{IsWhole}
-use Rattle.floats.proofs.Order.{lt_then_le, le_then_le, never_both}
+use Rattle.floats.proofs.Order.{never_both}
 use Rattle.floats.proofs.Turned.{lt_turned}
 use Rattle.floats.proofs.Whole.{negation_whole, compared, nought_whole, unit_whole}
 use Rattle.single.specs.declared.corner.Corner.{Corner}
@@ -62,8 +63,8 @@ turned_is z = grind (arith, ints)
 module _ (epsilon : Float) (low : T (le nought epsilon)) (high : T (lt epsilon unit)) where
   above : (v : Float) (z : ℤ) → IsWhole v z → lt epsilon v ≡ lt_z (pos 0) z
   above v z p = by_both (lt epsilon v) (lt_z (pos 0) z)
-      (λ t. lt_then_le epsilon unit v high (subst T (above_is z ∙ sym (compared unit v (pos 1) z unit_whole p).up_to) t))
-      (λ n t. never_both epsilon v t (le_then_le v nought epsilon (subst T (sym (compared v nought z (pos 0) p nought_whole).up_to) (rest_is z n)) low))
+      (λ t. lt_of_lt_of_le epsilon unit v high (subst T (above_is z ∙ sym (compared unit v (pos 1) z unit_whole p).up_to) t))
+      (λ n t. never_both epsilon v t (le_trans v nought epsilon (subst T (sym (compared v nought z (pos 0) p nought_whole).up_to) (rest_is z n)) low))
 
   below : (v : Float) (z : ℤ) → IsWhole v z → lt v (neg epsilon) ≡ lt_z z (pos 0)
   below v z p = (lt_turned v epsilon).1 ∙ above (neg v) (neg_ℤ z) (negation_whole v z p) ∙ turned_is z

@@ -6,11 +6,12 @@ use lib.Ieee.{Float, Format, nan, inf, fin, binary32, prec, low, up, down, unlik
 use lib.Ieee.Fits.{down_pos, round_is}
 use lib.Ieee.Exact.{HasValue, round_exact}
 use lib.Ieee.Order.{round_mono}
-use Rattle.std.proofs.lemmas.Bool.{ne_eqb}
-use Rattle.floats.specs.Operations.{nought}
+use lib.Ieee.Scale.{finite}
+use Rattle.std.proofs.lemmas.Bool.{cond-false, ne_eqb}
+use Rattle.floats.specs.Operations.{◌⊕◌, ◌⊗◌, ◌⊘◌, nought}
 use Rattle.floats.specs.Numbers.{IsFraction}
 use Rattle.floats.specs.Bounds.{Within, SumBounded, DifferenceBounded, ProductBounded, QuotientNumber}
-use Rattle.floats.proofs.Fractions.{le_fraction}
+use Rattle.floats.proofs.Fractions.{both_finite, le_fraction}
 use Rattle.floats.proofs.Sums.{totals}
 use Rattle.floats.proofs.Turned.{round_turned}
 
@@ -92,13 +93,20 @@ within_round true a c k C K h =
 
 -- ---- the operations
 
+pub within_finite : (k : ℕ) (x : Float) → Within k x → T (finite x)
+within_finite k nan p = p
+within_finite k (inf s) p = p
+within_finite k (fin s m e) p = tt
+
+-- what holds of any that are bounded
+pub by_bounds : (P : Float → Float → Type 0) (j k : ℕ) → ((s : Bool) (m : ℕ) (e : ℤ) (t : Bool) (n : ℕ) (d : ℤ) → m * up e ≤ 2 ^ j * down e → n * up d ≤ 2 ^ k * down d → P (fin s m e) (fin t n d))
+    → (x y : Float) → Within j x → Within k y → P x y
+by_bounds P j k f x y p q = both_finite (λ x y. Within j x → Within k y → P x y) f x y (within_finite j x p) (within_finite k y q) p q
+
 pub sum_bounded : SumBounded
 unfolding add
-sum_bounded nan y k K p q = absurd p
-sum_bounded (inf s) y k K p q = absurd p
-sum_bounded (fin s m e) nan k K p q = absurd q
-sum_bounded (fin s m e) (inf t) k K p q = absurd q
-sum_bounded (fin s m e) (fin t n d) k K p q =
+sum_bounded x y k K = by_bounds (λ x y. Within (suc k) (x ⊕ y)) k k
+    (λ s m e t n d p q.
     let a = m * up e * down d in
     let b = n * up d * down e in
     let c = down e * down d in
@@ -106,7 +114,7 @@ sum_bounded (fin s m e) (fin t n d) k K p q =
     let A : a ≤ 2 ^ k * c = omega (arith, mul-le-mul_right (down d) p) in
     let B : b ≤ 2 ^ k * c = omega (arith, mul-le-mul_right (down e) q) in
     let most : r.size ≤ 2 ^ suc k * c = subst (λ (i : ℕ). r.size ≤ i * c) (sym (pow-suc 2 k)) (omega (arith, r.most)) in
-    subst (Within (suc k)) (sym r.rounds) (within_round r.sign r.size c (suc k) (mul-pos (down_pos e) (down_pos d)) (omega arith) most)
+    subst (Within (suc k)) (sym r.rounds) (within_round r.sign r.size c (suc k) (mul-pos (down_pos e) (down_pos d)) (omega arith) most)) x y
 
 pub difference_bounded : DifferenceBounded
 unfolding sub
@@ -114,13 +122,9 @@ difference_bounded x y k K p q = sum_bounded x (neg y) k K p (within_turned k y 
 
 pub product_bounded : ProductBounded
 unfolding mul
-product_bounded nan y j k K p q = absurd p
-product_bounded (inf s) y j k K p q = absurd p
-product_bounded (fin s m e) nan j k K p q = absurd q
-product_bounded (fin s m e) (inf t) j k K p q = absurd q
-product_bounded (fin s m e) (fin t n d) j k K p q =
-    within_round (unlike s t) (m * up e * (n * up d)) (down e * down d) (j + k) (mul-pos (down_pos e) (down_pos d)) K
-    (le_trans (mul-le-mul p q) (le_of_eq (mul-mul-mul_comm (2 ^ j) (down e) (2 ^ k) (down d) ∙ ap (λ (i : ℕ). i * (down e * down d)) (sym (pow-add 2 j k)))))
+product_bounded x y j k K = by_bounds (λ x y. Within (j + k) (x ⊗ y)) j k
+    (λ s m e t n d p q. within_round (unlike s t) (m * up e * (n * up d)) (down e * down d) (j + k) (mul-pos (down_pos e) (down_pos d)) K
+    (le_trans (mul-le-mul p q) (le_of_eq (mul-mul-mul_comm (2 ^ j) (down e) (2 ^ k) (down d) ∙ ap (λ (i : ℕ). i * (down e * down d)) (sym (pow-add 2 j k)))))) x y
 
 -- a zero is level with 0
 zero-level : (t : Bool) (n : ℕ) (d : ℤ) → n ≡ 0 → eq (fin t n d) nought ≡ true
@@ -133,11 +137,8 @@ zero-level t n d z = ap (λ (i : ℕ). eq (fin t i d) nought) z ∙ at_zero t
 
 pub quotient_number : QuotientNumber
 unfolding div
-quotient_number nan y j k p q h = absurd p
-quotient_number (inf s) y j k p q h = absurd p
-quotient_number (fin s m e) nan j k p q h = absurd q
-quotient_number (fin s m e) (inf t) j k p q h = absurd q
-quotient_number (fin s m e) (fin t n d) j k p q h =
+quotient_number x y j k p q = by_bounds (λ x y. eq y nought ≡ false → is_nan (x ⊘ y) ≡ false) j k
+    (λ s m e t n d _ _ h.
     let some : (n ≡ 0) → ⊥ = λ z. mathlib.Core.Bool.true≢false (sym (zero-level t n d z) ∙ h) in
-    ap (λ (b : Bool). is_nan (cond b (cond (eqb m 0) nan (inf (unlike s t))) (round binary32 (unlike s t) (m * up e * down d) (n * up d * down e)))) (ne_eqb n 0 some)
-    ∙ bears_number (unlike s t) _ (round_bears binary32 (unlike s t) (m * up e * down d) (n * up d * down e))
+    ap is_nan (cond-false (eqb n 0) (cond (eqb m 0) nan (inf (unlike s t))) _ (ne_eqb n 0 some))
+    ∙ bears_number (unlike s t) _ (round_bears binary32 (unlike s t) (m * up e * down d) (n * up d * down e))) x y p q

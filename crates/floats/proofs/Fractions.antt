@@ -1,13 +1,37 @@
 -- Finite floats as fractions: at a common denominator they compare as whole numbers do. Assumes nothing.
-use Rattle.std.proofs.Common.{◌≡◌, ℕ, zero, suc, ◌+◌, ◌*◌, ◌<◌, Bool, true, false, not, ◌&&◌, ◌||◌, ltb, ℤ, nat_abs, sym, refl, ap, ◌∙◌, inl, inr, mul-le-mul_right, lt_of_mul-lt-mul_right, mul-lt-mul_of_pos_right, mul-pos, le_of_mul-le-mul_right, arith}
+use Rattle.std.proofs.Common.{◌≡◌, ℕ, zero, suc, ◌+◌, ◌*◌, ◌<◌, Bool, true, false, not, ◌&&◌, ◌||◌, T, ltb, ltb→lt, ℤ, pos, nat_abs, sym, refl, ap, ◌∙◌, subst₂, inl, inr, mul-le-mul_right, lt_of_mul-lt-mul_right, mul-lt-mul_of_pos_right, mul-pos, le_of_mul-le-mul_right, arith}
 use lib.Signed.{lt_z, le_z}
-use lib.Ieee.{Float, nan, inf, fin, up, down, below, level, lt, eq, le}
+use lib.Ieee.{Float, nan, inf, fin, up, down, below, level, lt, eq, le, of_bits}
 use lib.Ieee.Fits.{down_pos}
 use lib.Ieee.Exact.{HasValue}
+use lib.Ieee.Scale.{finite}
 use Rattle.std.proofs.lemmas.Int.{ints}
 use Rattle.std.proofs.lemmas.Bool.{cases_lt, lt-ltb, le-ltb}
 use Rattle.std.proofs.lemmas.Bool.Decides.{nat_tests}
+use Rattle.floats.specs.Operations.{nought, unit}
 use Rattle.floats.specs.Numbers.{signed, IsFraction, same_z}
+
+-- ---- finite floats
+
+-- what holds of any that are given by sign, digits and exponent
+pub both_finite : (P : Float → Float → Type 0) → ((s : Bool) (m : ℕ) (e : ℤ) (t : Bool) (n : ℕ) (d : ℤ) → P (fin s m e) (fin t n d)) → (x y : Float) → T (finite x) → T (finite y) → P x y
+both_finite P f nan y p q = absurd p
+both_finite P f (inf s) y p q = absurd p
+both_finite P f (fin s m e) nan p q = absurd q
+both_finite P f (fin s m e) (inf t) p q = absurd q
+both_finite P f (fin s m e) (fin t n d) p q = f s m e t n d
+
+value-finite : (x : Float) (s : Bool) (a c : ℕ) → HasValue x s a c → T (finite x)
+value-finite nan s a c p = p
+value-finite (inf t) s a c p = p
+value-finite (fin t m e) s a c p = tt
+
+-- what holds of any that stand for a / c and b / d
+pub by_value : (P : Float → Float → Type 0) (s t : Bool) (a b c d : ℕ) → ((m : ℕ) (e : ℤ) (n : ℕ) (g : ℤ) → m * up e * c ≡ a * down e → n * up g * d ≡ b * down g → P (fin s m e) (fin t n g))
+    → (x y : Float) → HasValue x s a c → HasValue y t b d → P x y
+by_value P s t a b c d f x y p q =
+    both_finite (λ x y. HasValue x s a c → HasValue y t b d → P x y) (λ u m e v n g p q. subst₂ (λ u v. P (fin u m e) (fin v n g)) (sym p.0) (sym q.0) (f m e n g p.1 q.1))
+    x y (value-finite x s a c p) (value-finite y t b d q) p q
 
 -- ---- whole numbers by sign and size
 
@@ -15,6 +39,18 @@ pub signed-size : (s : Bool) (n : ℕ) → nat_abs (signed s n) ≡ n
 signed-size false n = refl
 signed-size true zero = refl
 signed-size true (suc n) = refl
+
+-- a number above 0 has no minus sign
+pub positive_parts : (s : Bool) (n : ℕ) → T (lt_z (pos 0) (signed s n)) → (s ≡ false) × (0 < n)
+positive_parts false n h = (refl, ltb→lt 0 n h)
+positive_parts true zero h = absurd h
+positive_parts true (suc n) h = absurd h
+
+pub nought_fraction : (c : ℕ) → IsFraction nought (pos 0) c
+nought_fraction c = record { sign = false; size = 0; value = unfold of_bits in (refl, omega arith); is = refl }
+
+pub unit_fraction : (c : ℕ) → IsFraction unit (pos c) c
+unit_fraction c = record { sign = false; size = c; value = unfold of_bits in (refl, omega arith); is = refl }
 
 -- ---- comparisons by sign and size
 
@@ -58,23 +94,16 @@ module _ (m n : ℕ) (e d : ℤ) (a b c : ℕ) (C : 0 < c) (p : m * up e * c ≡
 
 lt_value : (x y : Float) (s t : Bool) (a b c : ℕ) → 0 < c → HasValue x s a c → HasValue y t b c → lt x y ≡ lt_z (signed s a) (signed t b)
 unfolding lt
-lt_value nan y s t a b c C p q = absurd p
-lt_value (inf u) y s t a b c C p q = absurd p
-lt_value (fin u m e) nan s t a b c C p q = absurd q
-lt_value (fin u m e) (inf v) s t a b c C p q = absurd q
-lt_value (fin u m e) (fin v n d) s t a b c C p q =
-    lt_signed u v (m * up e * down d) (n * up d * down e) ∙ fin_alike m n e d a b c C p.1 q.1 u v ∙ (λ i. lt_z (signed (p.0 i) a) (signed (q.0 i) b))
+lt_value x y s t a b c C p q =
+    by_value (λ x y. lt x y ≡ lt_z (signed s a) (signed t b)) s t a b c c
+    (λ m e n d p q. lt_signed s t (m * up e * down d) (n * up d * down e) ∙ fin_alike m n e d a b c C p q s t) x y p q
 
 eq_value : (x y : Float) (s t : Bool) (a b c : ℕ) → 0 < c → HasValue x s a c → HasValue y t b c → eq x y ≡ same_z (signed s a) (signed t b)
 unfolding eq
-eq_value nan y s t a b c C p q = absurd p
-eq_value (inf u) y s t a b c C p q = absurd p
-eq_value (fin u m e) nan s t a b c C p q = absurd q
-eq_value (fin u m e) (inf v) s t a b c C p q = absurd q
-eq_value (fin u m e) (fin v n d) s t a b c C p q =
-    eq_signed u v (m * up e * down d) (n * up d * down e)
-    ∙ (λ i. not (fin_alike m n e d a b c C p.1 q.1 u v i) && not (fin_alike n m d e b a c C q.1 p.1 v u i))
-    ∙ (λ i. same_z (signed (p.0 i) a) (signed (q.0 i) b))
+eq_value x y s t a b c C p q =
+    by_value (λ x y. eq x y ≡ same_z (signed s a) (signed t b)) s t a b c c
+    (λ m e n d p q. eq_signed s t (m * up e * down d) (n * up d * down e)
+    ∙ (λ i. not (fin_alike m n e d a b c C p q s t i) && not (fin_alike n m d e b a c C q p t s i))) x y p q
 
 module _ (x y : Float) (z w : ℤ) (c : ℕ) (C : 0 < c) (p : IsFraction x z c) (q : IsFraction y w c) where
   pub lt_fraction : lt x y ≡ lt_z z w

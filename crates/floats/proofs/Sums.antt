@@ -8,7 +8,7 @@ use lib.Ieee.Scale.{round_same}
 use Rattle.std.proofs.lemmas.Int.{ints}
 use Rattle.std.proofs.lemmas.Bool.{cases_Bool, ltb-true, ltb-false, cond-true, cond-false}
 use Rattle.floats.specs.Numbers.{signed, IsFraction}
-use Rattle.floats.proofs.Fractions.{ltb_alike}
+use Rattle.floats.proofs.Fractions.{by_value, ltb_alike}
 
 -- x is z / c, rounded once
 pub record Rounded (f : Format) (x : Float) (z : ℤ) (c : ℕ) : Type 0 where
@@ -78,14 +78,10 @@ module _ (f : Format) (a b c a' b' c' : ℕ) (C : 0 < c) (C' : 0 < c') (p : a * 
 
 pub add-value : (f : Format) (x y : Float) (s t : Bool) (a b c : ℕ) → 0 < c → HasValue x s a c → HasValue y t b c → add f x y ≡ sum f s a t b c
 unfolding add
-add-value f nan y s t a b c C p q = absurd p
-add-value f (inf u) y s t a b c C p q = absurd p
-add-value f (fin u m e) nan s t a b c C p q = absurd q
-add-value f (fin u m e) (inf v) s t a b c C p q = absurd q
-add-value f (fin u m e) (fin v n d) s t a b c C p q =
-    sum_alike f (m * up e * down d) (n * up d * down e) (down e * down d) a b c (mul-pos (down_pos e) (down_pos d)) C
-    (omega (arith, ap (λ (k : ℕ). k * down d) p.1)) (omega (arith, ap (λ (k : ℕ). k * down e) q.1)) u v
-    ∙ (λ i. sum f (p.0 i) a (q.0 i) b c)
+add-value f x y s t a b c C p q =
+    by_value (λ x y. add f x y ≡ sum f s a t b c) s t a b c c
+    (λ m e n d p q. sum_alike f (m * up e * down d) (n * up d * down e) (down e * down d) a b c (mul-pos (down_pos e) (down_pos d)) C
+    (omega (arith, ap (λ (k : ℕ). k * down d) p)) (omega (arith, ap (λ (k : ℕ). k * down e) q)) s t) x y p q
 
 pub neg_value : (x : Float) (s : Bool) (a c : ℕ) → HasValue x s a c → HasValue (neg x) (not s) a c
 unfolding neg

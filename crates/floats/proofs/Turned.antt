@@ -1,5 +1,6 @@
 -- A float with its sign turned round. Assumes nothing.
 use Rattle.std.proofs.Common.{◌≡◌, ℕ, zero, suc, ◌*◌, ◌^◌, Bool, true, false, cond, not, ◌&&◌, ltb, sym, refl, ap, ◌∙◌, add_comm}
+use mathlib.Core.Bool.{not-not}
 use lib.Ieee.{Float, Format, nan, inf, fin, prec, low, up, down, odd, units, round, below, neg, lt}
 use lib.Ieee.Fits.{round_is}
 
@@ -17,10 +18,6 @@ inf_turned false true = (refl, refl)
 inf_turned true false = (refl, refl)
 inf_turned true true = (refl, refl)
 
-not_not : (b : Bool) → not (not b) ≡ b
-not_not true = refl
-not_not false = refl
-
 -- x turned round is below y where y turned round is below x, and likewise on the right
 pub lt_turned : (x y : Float) → (lt (neg x) y ≡ lt (neg y) x) × (lt x (neg y) ≡ lt y (neg x))
 unfolding lt neg
@@ -30,8 +27,8 @@ lt_turned nan (fin t n d) = (refl, refl)
 lt_turned (inf s) nan = (refl, refl)
 lt_turned (fin s m e) nan = (refl, refl)
 lt_turned (inf s) (inf t) = inf_turned s t
-lt_turned (inf s) (fin t n d) = (refl, sym (not_not s))
-lt_turned (fin s m e) (inf t) = (refl, not_not t)
+lt_turned (inf s) (fin t n d) = (refl, sym (not-not s))
+lt_turned (fin s m e) (inf t) = (refl, not-not t)
 lt_turned (fin s m e) (fin t n d) = below_turned s t (m * up e * down d) (n * up d * down e)
 
 -- ---- rounding: the sign is handed through

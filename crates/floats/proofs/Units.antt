@@ -1,20 +1,20 @@
 -- Parts of a difference stay from 0 to 1. Assumes nothing.
-use Rattle.std.proofs.Common.{◌≡◌, ℕ, zero, suc, ◌+◌, ◌-◌, ◌*◌, ◌%◌, ◌^◌, ◌<◌, ◌≤◌, Bool, true, false, ◌&&◌, T, eqb, ltb, leb, ℤ, pos, negsuc, ◌-ℤ◌, sym, refl, ap, ◌∙◌, subst, inl, inr, mul-le-mul_right, mul-pos, arith, lit<, ltb→lt, leb→le, pow-add}
+use Rattle.std.proofs.Common.{◌≡◌, ℕ, zero, suc, ◌+◌, ◌-◌, ◌*◌, ◌%◌, ◌^◌, ◌<◌, ◌≤◌, Bool, true, false, ◌&&◌, T, eqb, ltb, leb, ℤ, pos, negsuc, ◌-ℤ◌, sym, refl, ap, ◌∙◌, subst, inl, inr, mul-le-mul_right, mul-pos, arith, lit<, leb→le, pow-add}
 use mathlib.Core.Bool.{false≢true}
 use lib.Signed.{lt_z, le_z}
 use lib.Pow.{pow-lt}
 use lib.Ieee.{Float, nan, inf, fin, binary32, up, down, unlike, round, neg, lt, le, fits, of_bits}
 use lib.Ieee.Fits.{down_pos, and_l, and_r}
-use lib.Ieee.Exact.{HasValue}
 use lib.Ieee.Order.{round_mono}
+use lib.Ieee.Scale.{finite}
 use Rattle.std.proofs.lemmas.Float.{le_trans, lt_of_lt_of_le}
 use Rattle.std.proofs.lemmas.Int.{ints}
 use Rattle.std.proofs.lemmas.Bool.{cases_lt}
 use Rattle.floats.specs.Operations.{◌⊖◌, ◌⊘◌, nought, unit}
 use Rattle.floats.specs.Numbers.{signed, IsFraction}
-use Rattle.floats.specs.Bounds.{Within}
 use Rattle.floats.specs.Units.{InUnit, Steps, StepsOrdered, StepSome, PartInUnit, RestInUnit}
-use Rattle.floats.proofs.Fractions.{lt_fraction, le_fraction}
+use Rattle.floats.proofs.Fractions.{both_finite, positive_parts, nought_fraction, unit_fraction, lt_fraction, le_fraction}
+use Rattle.floats.proofs.Bounds.{within_finite, by_bounds}
 use Rattle.floats.proofs.Sums.{sub_rounded}
 use Rattle.floats.proofs.Products.{div_value}
 use Rattle.floats.proofs.Turned.{round_turned}
@@ -57,18 +57,8 @@ clear true (suc n) h e = absurd h
 
 -- ---- finite floats
 
-abbrev Finite : Float → Type 0
-Finite nan = ⊥
-Finite (inf s) = ⊥
-Finite (fin s m e) = Unit {0}
-
-within_finite : (k : ℕ) (x : Float) → Within k x → Finite x
-within_finite k nan p = p
-within_finite k (inf s) p = p
-within_finite k (fin s m e) p = tt
-
 -- what lies between two is finite too
-middle : (u w v : Float) → Finite u → Finite v → T (le u w) → T (le w v) → Finite w
+middle : (u w v : Float) → T (finite u) → T (finite v) → T (le u w) → T (le w v) → T (finite w)
 unfolding le
 middle nan w v p q h k = absurd p
 middle (inf s) w v p q h k = absurd p
@@ -119,7 +109,7 @@ steps u w v i j k c C p q r g h =
 pub steps_ordered : StepsOrdered
 steps_ordered u w v j k p q g h = on u w v (within_finite j u p) (middle u w v (within_finite j u p) (within_finite k v q) g h) (within_finite k v q) g h
   where
-    on : (u w v : Float) → Finite u → Finite w → Finite v → T (le u w) → T (le w v) → Steps u w v
+    on : (u w v : Float) → T (finite u) → T (finite w) → T (finite v) → T (le u w) → T (le w v) → Steps u w v
     on nan w v p q r g h = absurd p
     on (inf s) w v p q r g h = absurd p
     on (fin s m e) nan v p q r g h = absurd q
@@ -154,90 +144,47 @@ multiple s (suc m) (negsuc k) h =
 on_grid : (s : Bool) (m : ℕ) (e : ℤ) (a : ℕ) → m * up e * 2 ^ 149 ≡ a * down e → IsFraction (fin s m e) (signed s a) (2 ^ 149)
 on_grid s m e a h = record { sign = s; size = a; value = (refl, h); is = refl }
 
-least : T (lt nought (Q 1 (2 ^ 149)))
-unfolding round of_bits lt
-least = tt
-
-positive_parts : (s : Bool) (n : ℕ) → T (lt_z (pos 0) (signed s n)) → (s ≡ false) × (0 < n)
-positive_parts false n h = (refl, ltb→lt 0 n h)
-positive_parts true zero h = absurd h
-positive_parts true (suc n) h = absurd h
-
 pub step_some : StepSome
-step_some u v f g j k p q h = on u v f g (within_finite j u p) (within_finite k v q) h
+step_some u v f g j k p q = by_bounds (λ u v. T (fits binary32 u) → T (fits binary32 v) → T (lt u v) → T (lt nought (v ⊖ u))) j k
+    (λ s m e t n d _ _ f g h.
+    let a = multiple s m e f in
+    let b = multiple t n d g in
+    let c = 2 ^ 149 in
+    let C : 0 < c = lit< tt in
+    let x = on_grid s m e a.0 a.1 in
+    let y = on_grid t n d b.0 b.1 in
+    let r = sub_rounded binary32 (fin t n d) (fin s m e) (signed t b.0) (signed s a.0) c C y x in
+    let w = positive_parts r.sign r.size (subst (λ (z : ℤ). T (lt_z (pos 0) z)) r.is (gap (signed s a.0) (signed t b.0) (subst T (lt_fraction (fin s m e) (fin t n d) _ _ c C x y) h))) in
+    subst (λ (z : Float). T (lt nought z)) (sym (r.rounds ∙ ap (λ (z : Bool). round binary32 z r.size c) w.0))
+    (lt_of_lt_of_le nought (Q 1 c) (Q r.size c) (unfold round of_bits lt in tt) (round_mono binary32 1 c r.size c C C (omega (arith, mul-le-mul_right c w.1))))) u v p q f g
   where
     gap : (i j : ℤ) → T (lt_z i j) → T (lt_z (pos 0) (j -ℤ i))
     gap i j h = grind (arith, ints)
 
-    on : (u v : Float) → T (fits binary32 u) → T (fits binary32 v) → Finite u → Finite v → T (lt u v) → T (lt nought (v ⊖ u))
-    on nan v f g p q h = absurd p
-    on (inf s) v f g p q h = absurd p
-    on (fin s m e) nan f g p q h = absurd q
-    on (fin s m e) (inf t) f g p q h = absurd q
-    on (fin s m e) (fin t n d) f g p q h =
-        let a = multiple s m e f in
-        let b = multiple t n d g in
-        let c = 2 ^ 149 in
-        let C : 0 < c = lit< tt in
-        let x = on_grid s m e a.0 a.1 in
-        let y = on_grid t n d b.0 b.1 in
-        let r = sub_rounded binary32 (fin t n d) (fin s m e) (signed t b.0) (signed s a.0) c C y x in
-        let w = positive_parts r.sign r.size (subst (λ (z : ℤ). T (lt_z (pos 0) z)) r.is (gap (signed s a.0) (signed t b.0) (subst T (lt_fraction (fin s m e) (fin t n d) _ _ c C x y) h))) in
-        subst (λ (z : Float). T (lt nought z)) (sym (r.rounds ∙ ap (λ (z : Bool). round binary32 z r.size c) w.0))
-        (lt_of_lt_of_le nought (Q 1 c) (Q r.size c) least (round_mono binary32 1 c r.size c C C (omega (arith, mul-le-mul_right c w.1))))
-
 -- ---- parts
-
-nought_finite : Finite nought
-unfolding of_bits
-nought_finite = tt
-
-unit_finite : Finite unit
-unfolding of_bits
-unit_finite = tt
-
-nought-value : (c : ℕ) → HasValue nought false 0 c
-unfolding of_bits
-nought-value c = (refl, omega arith)
-
-unit-value : (c : ℕ) → HasValue unit false c c
-unfolding of_bits
-unit-value c = (refl, omega arith)
-
-pub nought_fraction : (c : ℕ) → IsFraction nought (pos 0) c
-nought_fraction c = record { sign = false; size = 0; value = nought-value c; is = refl }
-
-unit_fraction : (c : ℕ) → IsFraction unit (pos c) c
-unit_fraction c = record { sign = false; size = c; value = unit-value c; is = refl }
 
 pub part_in_unit : PartInUnit
 unfolding spread
-part_in_unit x y k q g h l = on x y (middle nought x y nought_finite (within_finite k y q) g h) (within_finite k y q) g h l
+part_in_unit x y k q g h = both_finite (λ x y. T (le nought x) → T (le x y) → T (lt nought y) → InUnit (x ⊘ y))
+    (λ s m e t n d g h l.
+    let c = down e * down d in
+    let C : 0 < c = mul-pos (down_pos e) (down_pos d) in
+    let a = m * up e * down d in
+    let b = n * up d * down e in
+    let X = spread s m e (down d) c refl in
+    let Y = spread t n d (down e) c (omega arith) in
+    let A : T (le_z (pos 0) (signed s a)) = subst T (le_fraction nought (fin s m e) (pos 0) (signed s a) c C (nought_fraction c) X) g in
+    let AB : T (le_z (signed s a) (signed t b)) = subst T (le_fraction (fin s m e) (fin t n d) (signed s a) (signed t b) c C X Y) h in
+    let B = positive_parts t b (subst T (lt_fraction nought (fin t n d) (pos 0) (signed t b) c C (nought_fraction c) Y) l) in
+    subst InUnit (sym (div_value binary32 (fin s m e) (fin t n d) s t a b c B.1 C X.value Y.value ∙ ap (λ (z : Bool). round binary32 z a b) (like s t B.0)))
+    (round_in_unit s a b B.1 (clear s a A) (sizes s t a b A AB))) x y (middle nought x y (unfold of_bits in tt) (within_finite k y q) g h) (within_finite k y q) g h
   where
     like : (s t : Bool) → t ≡ false → unlike s t ≡ s
     like false t e = ap (unlike false) e
     like true t e = ap (unlike true) e
 
-    on : (x y : Float) → Finite x → Finite y → T (le nought x) → T (le x y) → T (lt nought y) → InUnit (x ⊘ y)
-    on nan y p q g h l = absurd p
-    on (inf s) y p q g h l = absurd p
-    on (fin s m e) nan p q g h l = absurd q
-    on (fin s m e) (inf t) p q g h l = absurd q
-    on (fin s m e) (fin t n d) p q g h l =
-        let c = down e * down d in
-        let C : 0 < c = mul-pos (down_pos e) (down_pos d) in
-        let a = m * up e * down d in
-        let b = n * up d * down e in
-        let X = spread s m e (down d) c refl in
-        let Y = spread t n d (down e) c (omega arith) in
-        let A : T (le_z (pos 0) (signed s a)) = subst T (le_fraction nought (fin s m e) (pos 0) (signed s a) c C (nought_fraction c) X) g in
-        let AB : T (le_z (signed s a) (signed t b)) = subst T (le_fraction (fin s m e) (fin t n d) (signed s a) (signed t b) c C X Y) h in
-        let B = positive_parts t b (subst T (lt_fraction nought (fin t n d) (pos 0) (signed t b) c C (nought_fraction c) Y) l) in
-        subst InUnit (sym (div_value binary32 (fin s m e) (fin t n d) s t a b c B.1 C X.value Y.value ∙ ap (λ (z : Bool). round binary32 z a b) (like s t B.0)))
-        (round_in_unit s a b B.1 (clear s a A) (sizes s t a b A AB))
-
 pub rest_in_unit : RestInUnit
-rest_in_unit q r = on q (middle nought q unit nought_finite unit_finite r.low r.high) r.low r.high
+rest_in_unit q r = on q (middle nought q unit (unfold of_bits in tt) (unfold of_bits in tt) r.low r.high) r.low r.high
   where
     low : (i j : ℤ) → T (le_z i j) → T (le_z (pos 0) (j -ℤ i))
     low i j h = grind (arith, ints)
@@ -245,7 +192,7 @@ rest_in_unit q r = on q (middle nought q unit nought_finite unit_finite r.low r.
     high : (i j : ℤ) → T (le_z (pos 0) i) → T (le_z (j -ℤ i) j)
     high i j h = grind (arith, ints)
 
-    on : (q : Float) → Finite q → T (le nought q) → T (le q unit) → InUnit (unit ⊖ q)
+    on : (q : Float) → T (finite q) → T (le nought q) → T (le q unit) → InUnit (unit ⊖ q)
     on nan p g h = absurd p
     on (inf s) p g h = absurd p
     on (fin s m e) p g h =

@@ -6,7 +6,7 @@ use lib.Ieee.Back.{round_whole}
 use Rattle.floats.specs.Operations.{nought, unit}
 use Rattle.floats.specs.Numbers.{signed, IsWhole}
 use Rattle.floats.specs.Whole.{WholeHeld, WholeSum, WholeDifference, WholeProduct, WholeNegation, WholeCompared, SameDifference, SameProduct, MinusNought}
-use Rattle.floats.proofs.Fractions.{signed-size, lt_fraction, le_fraction, eq_fraction}
+use Rattle.floats.proofs.Fractions.{signed-size, nought_fraction, unit_fraction, lt_fraction, le_fraction, eq_fraction}
 use Rattle.floats.proofs.Sums.{Rounded, totals, add-value, neg_value, signed_neg, neg_fraction, add_rounded, sub_rounded}
 use Rattle.floats.proofs.Products.{signed_mul, mul_value, mul_rounded}
 
@@ -46,10 +46,10 @@ compared x y z w p q = record {
 }
 
 pub nought_whole : IsWhole nought (pos 0)
-nought_whole = record { sign = false; size = 0; value = unfold of_bits in (refl, refl); is = refl }
+nought_whole = nought_fraction 1
 
 pub unit_whole : IsWhole unit (pos 1)
-unit_whole = record { sign = false; size = 1; value = unfold of_bits in (refl, refl); is = refl }
+unit_whole = unit_fraction 1
 
 -- ---- float by float: what is held exactly is rounded once on both sides
 

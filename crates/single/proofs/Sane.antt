@@ -18,9 +18,9 @@ use Rattle.floats.specs.Numbers.{signed, IsFraction}
 use Rattle.floats.specs.Bounds.{Within}
 use Rattle.floats.specs.Units.{InUnit}
 use Rattle.floats.proofs.Order.{le_not_level, eq_turned}
-use Rattle.floats.proofs.Fractions.{eq_fraction, le_fraction}
+use Rattle.floats.proofs.Fractions.{nought_fraction, eq_fraction, le_fraction}
 use Rattle.floats.proofs.Bounds.{difference_bounded, quotient_number}
-use Rattle.floats.proofs.Units.{steps_ordered, step_some, part_in_unit, rest_in_unit, nought_fraction}
+use Rattle.floats.proofs.Units.{steps_ordered, step_some, part_in_unit, rest_in_unit}
 use Rattle.single.specs.declared.corner.Corner.{Corner}
 use Rattle.single.specs.declared.corner.Weights.{Weights}
 use Rattle.single.specs.Triangle.{orientation_of}

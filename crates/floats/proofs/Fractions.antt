@@ -46,6 +46,10 @@ positive_parts false n h = (refl, ltb→lt 0 n h)
 positive_parts true zero h = absurd h
 positive_parts true (suc n) h = absurd h
 
+-- a finite float as a fraction with its own denominator
+pub own_fraction : (s : Bool) (m : ℕ) (e : ℤ) → IsFraction (fin s m e) (signed s (m * up e)) (down e)
+own_fraction s m e = record { sign = s; size = m * up e; value = (refl, refl); is = refl }
+
 pub nought_fraction : (c : ℕ) → IsFraction nought (pos 0) c
 nought_fraction c = record { sign = false; size = 0; value = unfold of_bits in (refl, omega arith); is = refl }
 

@@ -13,7 +13,7 @@ use Rattle.std.proofs.lemmas.Bool.{cases_lt}
 use Rattle.floats.specs.Operations.{◌⊖◌, ◌⊘◌, nought, unit}
 use Rattle.floats.specs.Numbers.{signed, IsFraction}
 use Rattle.floats.specs.Units.{InUnit, Steps, StepsOrdered, StepSome, PartInUnit, RestInUnit}
-use Rattle.floats.proofs.Fractions.{both_finite, positive_parts, nought_fraction, unit_fraction, lt_fraction, le_fraction}
+use Rattle.floats.proofs.Fractions.{both_finite, positive_parts, own_fraction, nought_fraction, unit_fraction, lt_fraction, le_fraction}
 use Rattle.floats.proofs.Bounds.{within_finite, by_bounds}
 use Rattle.floats.proofs.Sums.{sub_rounded}
 use Rattle.floats.proofs.Products.{div_value}
@@ -58,7 +58,7 @@ clear true (suc n) h e = absurd h
 -- ---- finite floats
 
 -- what lies between two is finite too
-middle : (u w v : Float) → T (finite u) → T (finite v) → T (le u w) → T (le w v) → T (finite w)
+pub middle : (u w v : Float) → T (finite u) → T (finite v) → T (le u w) → T (le w v) → T (finite w)
 unfolding le
 middle nan w v p q h k = absurd p
 middle (inf s) w v p q h k = absurd p
@@ -199,7 +199,7 @@ rest_in_unit q r = on q (middle nought q unit (unfold of_bits in tt) (unfold of_
         let c = down e in
         let C = down_pos e in
         let z = signed s (m * up e) in
-        let X : IsFraction (fin s m e) z c = record { sign = s; size = m * up e; value = (refl, refl); is = refl } in
+        let X = own_fraction s m e in
         let A : T (le_z (pos 0) z) = subst T (le_fraction nought (fin s m e) (pos 0) z c C (nought_fraction c) X) g in
         let B : T (le_z z (pos c)) = subst T (le_fraction (fin s m e) unit z (pos c) c C X (unit_fraction c)) h in
         let r = sub_rounded binary32 unit (fin s m e) (pos c) z c C (unit_fraction c) X in

@@ -1,12 +1,12 @@
 -- The marks that admitted corners give are numbers from 0 to 1. Assumes nothing.
-use Rattle.std.proofs.Common.{◌≡◌, ℕ, ◌*◌, Bool, true, false, cond, not, ◌&&◌, ◌||◌, T, leb, pos, Some, None, Option, sym, refl, ◌∙◌, subst, inl, inr, true≢false, arith, lit<}
+use Rattle.std.proofs.Common.{◌≡◌, ℕ, ◌*◌, Bool, true, false, cond, not, ◌&&◌, ◌||◌, T, leb, pos, IfSome, Some, None, Option, sym, refl, ◌∙◌, subst, inl, inr, arith, lit<}
 use lib.Signed.{lt_z}
 use lib.Ieee.{Float, nan, inf, fin, binary32, up, down, lt, le, eq, ne, is_nan, fits, of_bits}
 use lib.Ieee.Fits.{down_pos}
 use lib.Ieee.Bits.{is_true}
 use Rattle.std.specs.Float.{float_with_sign}
 use Rattle.std.proofs.lemmas.Int.{ints}
-use Rattle.std.proofs.lemmas.Float.{le_trans, le_of_not-lt}
+use Rattle.std.proofs.lemmas.Float.{le_trans, le_of_not-lt, T_from_true, T_from_false}
 use Rattle.std.proofs.lemmas.Bool.{cases_Bool, cond_both, and_parts, or_parts, both_ways, not-true}
 use Rattle.plane.specs.declared.answer.Meet.{Meet}
 use Rattle.plane.specs.declared.answer.Meet.TheVariants.{Apart, Crossing}
@@ -14,11 +14,11 @@ use Rattle.plane.specs.declared.mark.Mark.{Mark}
 use Rattle.plane.specs.declared.mark.Mark.TheVariants.{Start, Inside, End}
 use Rattle.plane.specs.Marks.{both, overlap_of}
 use Rattle.floats.specs.Operations.{◌⊖◌, ◌⊘◌, nought, unit}
-use Rattle.floats.specs.Numbers.{signed, IsFraction}
+use Rattle.floats.specs.Numbers.{signed}
 use Rattle.floats.specs.Bounds.{Within}
 use Rattle.floats.specs.Units.{InUnit}
 use Rattle.floats.proofs.Order.{le_not_level, eq_turned}
-use Rattle.floats.proofs.Fractions.{nought_fraction, eq_fraction, le_fraction}
+use Rattle.floats.proofs.Fractions.{own_fraction, nought_fraction, eq_fraction, le_fraction}
 use Rattle.floats.proofs.Bounds.{difference_bounded, quotient_number}
 use Rattle.floats.proofs.Units.{steps_ordered, step_some, part_in_unit, rest_in_unit}
 use Rattle.single.specs.declared.corner.Corner.{Corner}
@@ -26,10 +26,7 @@ use Rattle.single.specs.declared.corner.Weights.{Weights}
 use Rattle.single.specs.Triangle.{orientation_of}
 use Rattle.single.specs.Meets.{ulp, is_parallel, classified, is_out, denom_of, num1_of, num2_of, crossing_of, along, between_of, is_level, parallel_of, meet_of}
 use Rattle.single.specs.Sane.{AllAdmitted, SaneMark, SaneMeet}
-use Rattle.single.specs.Finite.{holds, WithinCorner, admitted_within, num1_within, num2_within, denom_within}
-
-fails : (b : Bool) → b ≡ false → T (not b)
-fails b h = subst (λ (v : Bool). T (not v)) (sym h) tt
+use Rattle.single.proofs.Finite.{WithinCorner, admitted_within, num1_within, num2_within, denom_within}
 
 -- ---- a mark from a number
 
@@ -41,24 +38,12 @@ classified_sane q u =
 
 -- ---- edges that are not parallel
 
-nought-ulp : T (le nought ulp)
-unfolding le of_bits
-nought-ulp = tt
-
-nought-number : T (not (is_nan nought))
-unfolding is_nan of_bits
-nought-number = tt
-
-unit-number : T (not (is_nan unit))
-unfolding is_nan of_bits
-unit-number = tt
-
 -- what is level with 0 is small
 small : (k : ℕ) (v : Float) → Within k v → eq v nought ≡ true → le (float_with_sign false v) ulp ≡ true
 unfolding float_with_sign
 small k nan w h = absurd w
 small k (inf s) w h = absurd w
-small k (fin s m e) w h = is_true (le (fin false m e) ulp) (le_trans (fin false m e) nought ulp low nought-ulp)
+small k (fin s m e) w h = is_true (le (fin false m e) ulp) (le_trans (fin false m e) nought ulp low (unfold le of_bits in tt))
   where
     none : (s : Bool) (n : ℕ) → (not (lt_z (signed s n) (pos 0)) && not (lt_z (pos 0) (signed s n))) ≡ true → n ≡ 0
     none false n g = grind (arith, ints)
@@ -68,8 +53,8 @@ small k (fin s m e) w h = is_true (le (fin false m e) ulp) (le_trans (fin false 
     low =
         let c = down e in
         let n = m * up e in
-        let X : IsFraction (fin s m e) (signed s n) c = record { sign = s; size = n; value = (refl, refl); is = refl } in
-        let Y : IsFraction (fin false m e) (pos n) c = record { sign = false; size = n; value = (refl, refl); is = refl } in
+        let X = own_fraction s m e in
+        let Y = own_fraction false m e in
         let z : n ≡ 0 = none s n (sym (eq_fraction (fin s m e) nought (signed s n) (pos 0) c (down_pos e) X (nought_fraction c)) ∙ h) in
         subst T (sym (le_fraction (fin false m e) nought (pos n) (pos 0) c (down_pos e) Y (nought_fraction c))) (subst (λ (i : ℕ). T (leb i 0)) (sym z) tt)
 
@@ -82,28 +67,23 @@ not_level k v epsilon w h =
 
 within_unit : (q : Float) → is_nan q ≡ false → lt q nought ≡ false → lt unit q ≡ false → InUnit q
 within_unit q n l h = record {
-  low = le_of_not-lt q nought (fails (is_nan q) n) nought-number (fails (lt q nought) l);
-  high = le_of_not-lt unit q unit-number (fails (is_nan q) n) (fails (lt unit q) h);
+  low = le_of_not-lt q nought (T_from_false (is_nan q) n) (unfold is_nan of_bits in tt) (T_from_false (lt q nought) l);
+  high = le_of_not-lt unit q (unfold is_nan of_bits in tt) (T_from_false (is_nan q) n) (T_from_false (lt unit q) h);
 }
 
 crossing_sane : (s t : Float) → is_nan s ≡ false → is_nan t ≡ false → SaneMeet (crossing_of s t)
 crossing_sane s t m n =
     cond_both (is_out s t) Apart (Crossing (classified s) (classified t)) SaneMeet (λ _. tt)
-    (λ o. let p = parts (lt s nought) (lt unit s) (lt t nought) (lt unit t) o in
-    (classified_sane s (within_unit s m p.0 p.1), classified_sane t (within_unit t n p.2 p.3)))
-  where
-    parts : (a b c d : Bool) → (a || b || c || d) ≡ false → (a ≡ false) × (b ≡ false) × (c ≡ false) × (d ≡ false)
-    parts false false false false e = (refl, refl, refl, refl)
-    parts false false false true e = absurd (true≢false e)
-    parts false false true d e = absurd (true≢false e)
-    parts false true c d e = absurd (true≢false e)
-    parts true b c d e = absurd (true≢false e)
+    (λ o.
+    let x = or_parts (lt s nought || lt unit s || lt t nought) (lt unit t) o in
+    let y = or_parts (lt s nought || lt unit s) (lt t nought) x.0 in
+    let z = or_parts (lt s nought) (lt unit s) y.0 in
+    (classified_sane s (within_unit s m z.0 z.1), classified_sane t (within_unit t n y.1 x.1)))
 
 -- ---- parallel edges
 
 abbrev SaneFound : Option (Mark Weights) → Type 0
-SaneFound None = Unit {0}
-SaneFound (Some m) = SaneMark m
+SaneFound o = IfSome o SaneMark
 
 -- the part from u to w of the way from u to v
 part_sane : (u w v : Float) → T (fits binary32 u) → T (fits binary32 v) → Within 59 u → Within 59 v → eq u v ≡ false → T (le u w) → T (le w v) → InUnit ((w ⊖ u) ⊘ (v ⊖ u))
@@ -115,9 +95,9 @@ part_sane u w v f g U V n p q =
 along_sane : (u v w : Float) → T (fits binary32 u) → T (fits binary32 v) → Within 59 u → Within 59 v → eq u v ≡ false → SaneFound (along u v w)
 along_sane u v w f g U V n =
     cond_both (le u w && le w v) _ _ SaneFound
-    (λ h. let p = and_parts (le u w) (le w v) h in classified_sane _ (part_sane u w v f g U V n (holds _ p.0) (holds _ p.1)))
+    (λ h. let p = and_parts (le u w) (le w v) h in classified_sane _ (part_sane u w v f g U V n (T_from_true _ p.0) (T_from_true _ p.1)))
     (λ _. cond_both (le w u && le v w) _ _ SaneFound
-    (λ h. let p = and_parts (le w u) (le v w) h in classified_sane _ (rest_in_unit _ (part_sane v w u g f V U (eq_turned v u ∙ n) (holds _ p.1) (holds _ p.0))))
+    (λ h. let p = and_parts (le w u) (le v w) h in classified_sane _ (rest_in_unit _ (part_sane v w u g f V U (eq_turned v u ∙ n) (T_from_true _ p.1) (T_from_true _ p.0))))
     (λ _. tt))
 
 -- a corner's numbers are of the format
@@ -125,16 +105,12 @@ pub record Fit (c : Corner) : Type 0 where
   pub on_x : fits binary32 c.x ≡ true
   pub on_y : fits binary32 c.y ≡ true
 
-differs : (x y : Float) → ne x y ≡ true → eq x y ≡ false
-unfolding ne
-differs x y h = not-true (eq x y) h
-
 between_sane : (a b c : Corner) → Fit a → Fit b → WithinCorner a → WithinCorner b → SaneFound (between_of a b c)
 between_sane a b c f g A B =
     cond_both (ne a.x b.x) _ _ SaneFound
-    (λ h. along_sane a.x b.x c.x (holds _ f.on_x) (holds _ g.on_x) A.on_x B.on_x (differs _ _ h))
+    (λ h. along_sane a.x b.x c.x (T_from_true _ f.on_x) (T_from_true _ g.on_x) A.on_x B.on_x (unfold ne in not-true _ h))
     (λ _. cond_both (ne a.y b.y) _ _ SaneFound
-    (λ h. along_sane a.y b.y c.y (holds _ f.on_y) (holds _ g.on_y) A.on_y B.on_y (differs _ _ h))
+    (λ h. along_sane a.y b.y c.y (T_from_true _ f.on_y) (T_from_true _ g.on_y) A.on_y B.on_y (unfold ne in not-true _ h))
     (λ _. cond_both (eq a.x c.x && eq a.y c.y) (Some Start) None SaneFound (λ _. tt) (λ _. tt)))
 
 both_sane : (p q : Option (Mark Weights)) (f : Mark Weights → Mark Weights → Meet (Mark Weights)) (rest : Meet (Mark Weights)) → SaneFound p → SaneFound q → ((m n : Mark Weights) → SaneMark m → SaneMark n → SaneMeet (f m n)) → SaneMeet rest → SaneMeet (both p q f rest)

@@ -7,4 +7,3 @@ pub mod Meets
 pub mod Single
 pub mod Sane
 pub mod Laws
-pub mod Finite

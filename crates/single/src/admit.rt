@@ -23,7 +23,7 @@ fn is_admitted(c: Corner) -> bool
 }
 
 /// The corner that a pair is admitted as, if it is. Its numbers are then finite.
-#[tactic(auto, using(crate::specs::Finite::admitted_finite))]
+#[tactic(auto, using(crate::proofs::Finite::admitted_finite))]
 pub fn admitted(pair: Pair) -> Option<Corner>
     ensures value { result ≡ the_admitted pair }
     ensures numbers { IfSome result FiniteCorner }

@@ -1,6 +1,6 @@
 use Rattle.std.proofs.Common.{rules}
 use Rattle.plane.specs.declared.answer.Meet.TheVariants.{Crossing}
-use Rattle.single.specs.Finite.{parts_finite}
+use Rattle.single.proofs.Finite.{parts_finite}
 use Rattle.single.proofs.Sane.{meet_sane}
 use Rattle.single.proofs.segments_intersection.segments_intersection2d.Goals as goal
 

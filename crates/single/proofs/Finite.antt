@@ -1,25 +1,25 @@
 -- Admitted corners are finite, and so are the formulas over them. Assumes nothing.
-use Rattle.std.specs.Prelude.{◌≡◌, ℕ, zero, suc, ◌*◌, ◌^◌, ◌≤◌, Bool, true, false, T, ℤ, pos, neg_ℤ, ◌≢◌, int_le, refl, Float}
-use Rattle.std.proofs.Common.{sym, subst, true≢false, arith, lit<, lit≤, leb→le}
+use Rattle.std.specs.Prelude.{◌≡◌, ℕ, ◌*◌, ◌^◌, ◌≤◌, Bool, true, false, T, ℤ, pos, neg_ℤ, int_le, refl, Float}
+use Rattle.std.proofs.Common.{subst, arith, lit<, lit≤}
 use Rattle.std.specs.Float.Ieee.{up, down, neg, le, of_bits}
 use Rattle.std.specs.Float.Ieee.Fits.{down_pos}
 use Rattle.std.specs.Float.Ieee.Exact.{HasValue}
+use lib.Ieee.Scale.{finite}
 use Rattle.std.specs.Float.{float_is_finite, nan, inf, fin}
 use Rattle.std.proofs.lemmas.Bool.{and_parts}
+use Rattle.std.proofs.lemmas.Float.{T_from_true}
+use Rattle.std.proofs.lemmas.Int.{ints}
 use Rattle.floats.specs.Operations.{◌⊖◌, ◌⊗◌}
 use Rattle.floats.specs.Numbers.{signed, IsFraction}
 use Rattle.floats.specs.Bounds.{Within}
-use Rattle.floats.proofs.Fractions.{le_fraction}
+use Rattle.floats.proofs.Fractions.{own_fraction, le_fraction}
+use Rattle.floats.proofs.Units.{middle}
 use Rattle.floats.proofs.Sums.{neg_fraction}
 use Rattle.floats.proofs.Bounds.{within_turned, within_more, sum_bounded, difference_bounded, product_bounded}
 use Rattle.single.specs.declared.corner.Corner.{Corner}
 use Rattle.single.specs.Admitted.{farthest, in_reach, is_admitted}
 use Rattle.single.specs.Meets.{denom_of, num1_of, num2_of}
 use Rattle.single.specs.Sane.{FiniteCorner, AllAdmitted, FiniteParts}
-
--- a test's answer as a fact
-pub holds : (b : Bool) → b ≡ true → T b
-holds b h = subst T (sym h) tt
 
 -- ---- one number
 
@@ -31,34 +31,28 @@ farthest_fraction : (c : ℕ) → IsFraction farthest (pos (2 ^ 59 * c)) c
 farthest_fraction c = record { sign = false; size = 2 ^ 59 * c; value = farthest_value c; is = refl }
 
 size_in : (s : Bool) (m n : ℕ) → T (int_le (neg_ℤ (pos n)) (signed s m)) → T (int_le (signed s m) (pos n)) → m ≤ n
-size_in false m n p q = leb→le m n q
-size_in true zero n p q = omega arith
-size_in true (suc m) zero p q = absurd p
-size_in true (suc m) (suc n) p q = omega (arith, leb→le m n p)
+size_in false m n p q = grind (arith, ints)
+size_in true m n p q = grind (arith, ints)
 
 fin_within : (s : Bool) (m : ℕ) (e : ℤ) → le (neg farthest) (fin s m e) ≡ true → le (fin s m e) farthest ≡ true → Within 59 (fin s m e)
 fin_within s m e p q =
     let c = down e in
     let n = 2 ^ 59 * c in
     let C = down_pos e in
-    let X : IsFraction (fin s m e) (signed s (m * up e)) c = record { sign = s; size = m * up e; value = (refl, refl); is = refl } in
+    let X = own_fraction s m e in
     size_in s (m * up e) n
-    (subst T (le_fraction (neg farthest) (fin s m e) (neg_ℤ (pos n)) (signed s (m * up e)) c C (neg_fraction farthest (pos n) c (farthest_fraction c)) X) (holds _ p))
-    (subst T (le_fraction (fin s m e) farthest (signed s (m * up e)) (pos n) c C X (farthest_fraction c)) (holds _ q))
-
-not_nan : in_reach nan ≡ true → ⊥
-unfolding le neg of_bits
-not_nan h = true≢false (sym h)
-
-not_inf : (s : Bool) → in_reach (inf s) ≢ true
-unfolding le neg of_bits
-not_inf true h = true≢false (sym h)
-not_inf false h = true≢false (sym h)
+    (subst T (le_fraction (neg farthest) (fin s m e) (neg_ℤ (pos n)) (signed s (m * up e)) c C (neg_fraction farthest (pos n) c (farthest_fraction c)) X) (T_from_true _ p))
+    (subst T (le_fraction (fin s m e) farthest (signed s (m * up e)) (pos n) c C X (farthest_fraction c)) (T_from_true _ q))
 
 pub reach_within : (v : Float) → in_reach v ≡ true → Within 59 v
-reach_within nan h = not_nan h
-reach_within (inf s) h = not_inf s h
-reach_within (fin s m e) h = let p = and_parts (le (neg farthest) (fin s m e)) (le (fin s m e) farthest) h in fin_within s m e p.0 p.1
+reach_within v h =
+    let p = and_parts (le (neg farthest) v) (le v farthest) h in
+    on v (middle (neg farthest) v farthest (unfold neg of_bits in tt) (unfold of_bits in tt) (T_from_true _ p.0) (T_from_true _ p.1)) p.0 p.1
+  where
+    on : (v : Float) → T (finite v) → le (neg farthest) v ≡ true → le v farthest ≡ true → Within 59 v
+    on nan f p q = absurd f
+    on (inf s) f p q = absurd f
+    on (fin s m e) f p q = fin_within s m e p q
 
 pub within_finite : (k : ℕ) (x : Float) → Within k x → float_is_finite x ≡ true
 unfolding float_is_finite

@@ -12,7 +12,7 @@ use Rattle.floats.proofs.Whole.{compared}
 use Rattle.floats.proofs.Quotients.{placed, rest_placed}
 use Rattle.single.specs.declared.corner.Weights.{Weights}
 use Rattle.single.specs.Meets.{classified, along}
-use Rattle.whole.specs.Spots.{Place, Nowhere, AtStart, AtEnd, Within, place_z}
+use Rattle.whole.specs.Spots.{Place, place_z}
 use Rattle.whole.specs.Exact.{place_of, found_at, ExactBetween}
 use Rattle.whole.proofs.Sizes.{Near, less}
 use Rattle.whole.proofs.Sides.{corner}
@@ -48,18 +48,18 @@ down_bounds u v w h n = (grind (arith, ints), grind (arith, ints), grind (arith,
 
 -- ---- on one axis
 
-pub mark_place : (q : Float) → place_of (classified q) ≡ cond (eq q nought) AtStart (cond (eq q unit) AtEnd Within)
+pub mark_place : (q : Float) → place_of (classified q) ≡ cond (eq q nought) Start (cond (eq q unit) End (Inside tt))
 mark_place q = by (eq q nought) (eq q unit)
   where
-    by : (s e : Bool) → place_of (cond s Start (cond e End (Inside (record { before = unit ⊖ q; behind = q })))) ≡ cond s AtStart (cond e AtEnd Within)
+    by : (s e : Bool) → place_of (cond s Start (cond e End (Inside (record { before = unit ⊖ q; behind = q })))) ≡ cond s Start (cond e End (Inside tt))
     by true e = refl
     by false true = refl
     by false false = refl
 
 found : (q : Float) (z w : ℤ) → eq q nought ≡ same_z z (pos 0) → eq q unit ≡ same_z z w → outside_z z w ≡ false → found_at (Some (classified q)) ≡ place_z z w
-found q z w s e o = mark_place q ∙ (λ i. cond (sym o i) Nowhere (cond (s i) AtStart (cond (e i) AtEnd Within)))
+found q z w s e o = ap Some (mark_place q) ∙ (λ i. cond (sym o i) None (Some (cond (s i) Start (cond (e i) End (Inside tt)))))
 
-choose : (x y : Bool) (m n : Option (Mark Weights)) (p : Place) → (x ≡ true → found_at m ≡ p) → (x ≡ false → y ≡ true → found_at n ≡ p) → (x ≡ false → y ≡ false → Nowhere ≡ p)
+choose : (x y : Bool) (m n : Option (Mark Weights)) (p : Option Place) → (x ≡ true → found_at m ≡ p) → (x ≡ false → y ≡ true → found_at n ≡ p) → (x ≡ false → y ≡ false → None ≡ p)
     → found_at (cond x m (cond y n None)) ≡ p
 choose true y m n p f g h = f refl
 choose false true m n p f g h = g refl refl
@@ -87,7 +87,7 @@ module _ (U V W : Float) (u v w : ℤ) (p : Near U u 1024) (q : Near V v 1024) (
       ∙ choose (up_z u v w) (down_z u v w) _ _ _
       (λ m. found _ (w -ℤ u) (v -ℤ u) forth.start forth.end (up_in u v w m n))
       (λ _ m. found _ (w -ℤ u) (v -ℤ u) ((back m).at_nought ∙ from_end u v w) ((back m).at_unit ∙ from_start u v w) (down_in u v w m n))
-      (λ l m. λ i. cond (sym (neither_in u v w l m n) i) Nowhere (cond (same_z (w -ℤ u) (pos 0)) AtStart (cond (same_z (w -ℤ u) (v -ℤ u)) AtEnd Within)))
+      (λ l m. λ i. cond (sym (neither_in u v w l m n) i) None (Some (cond (same_z (w -ℤ u) (pos 0)) Start (cond (same_z (w -ℤ u) (v -ℤ u)) End (Inside tt)))))
 
 -- ---- in the plane
 
@@ -98,8 +98,8 @@ ne_is : (x y : Float) (z w : ℤ) → IsWhole x z → IsWhole y w → ne x y ≡
 unfolding ne
 ne_is x y z w p q = ap not (eq_is x y z w p q)
 
-pick : (s t e : Bool) (m n : Option (Mark Weights)) (p q : Place) → (s ≡ false → found_at m ≡ p) → (t ≡ false → found_at n ≡ q)
-    → found_at (cond (not s) m (cond (not t) n (cond e (Some Start) None))) ≡ cond (not s) p (cond (not t) q (cond e AtStart Nowhere))
+pick : (s t e : Bool) (m n : Option (Mark Weights)) (p q : Option Place) → (s ≡ false → found_at m ≡ p) → (t ≡ false → found_at n ≡ q)
+    → found_at (cond (not s) m (cond (not t) n (cond e (Some Start) None))) ≡ cond (not s) p (cond (not t) q (cond e (Some Start) None))
 pick false t e m n p q f g = f refl
 pick true false e m n p q f g = g refl
 pick true true true m n p q f g = refl

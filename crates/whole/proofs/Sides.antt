@@ -1,14 +1,16 @@
 -- Sides, directions and a round of the inside test on whole corners. Assumes nothing.
-use Rattle.std.proofs.Common.{◌≡◌, ℕ, ◌+◌, ◌^◌, ◌≤◌, Bool, true, false, cond, not, ◌&&◌, T, ℤ, pos, ◌-ℤ◌, neg_ℤ, sym, refl, ◌∙◌, subst, arith, lit≤}
+use Rattle.std.proofs.Common.{◌≡◌, ℕ, ◌+◌, ◌^◌, ◌≤◌, cond, not, ◌&&◌, T, ℤ, pos, ◌-ℤ◌, neg_ℤ, sym, ◌∙◌, subst, inl, inr, arith, lit≤}
 use lib.IntN.{+ℤ_idr}
 use lib.Signed.{lt_z, le_z}
+use lib.Ieee.Bits.{is_true}
 use lib.Ieee.{Float, neg, lt, le, of_bits}
-use Rattle.std.proofs.lemmas.Float.{le_trans, lt_of_lt_of_le}
+use Rattle.std.proofs.lemmas.Float.{le_trans, lt_of_lt_of_le, T_from_true, T_from_false}
+use Rattle.std.proofs.lemmas.Bool.{cases_Bool}
 use Rattle.std.proofs.lemmas.Int.{ints}
 use Rattle.plane.specs.declared.answer.Side.TheVariants.{Left, Right, Level}
 use Rattle.floats.specs.Operations.{nought, unit}
 use Rattle.floats.specs.Numbers.{IsWhole}
-use Rattle.floats.proofs.Order.{never_both}
+use Rattle.floats.proofs.Order.{not_below}
 use Rattle.floats.proofs.Turned.{lt_turned}
 use Rattle.floats.proofs.Whole.{negation_whole, compared, nought_whole, unit_whole}
 use Rattle.single.specs.declared.corner.Corner.{Corner}
@@ -45,12 +47,6 @@ module _ (u v : Corner) (z w : Spot) (p : NearVector u z 2048) (q : NearVector v
 
 -- ---- a tolerance from 0 to below 1 changes no comparison of a whole number with 0
 
-pub by_both : (a b : Bool) → (T b → T a) → (T (not b) → T a → ⊥) → a ≡ b
-by_both true true f g = refl
-by_both false false f g = refl
-by_both false true f g = absurd (f tt)
-by_both true false f g = absurd (g tt tt)
-
 above_is : (z : ℤ) → lt_z (pos 0) z ≡ le_z (pos 1) z
 above_is z = grind (arith, ints)
 
@@ -62,9 +58,10 @@ turned_is z = grind (arith, ints)
 
 module _ (epsilon : Float) (low : T (le nought epsilon)) (high : T (lt epsilon unit)) where
   above : (v : Float) (z : ℤ) → IsWhole v z → lt epsilon v ≡ lt_z (pos 0) z
-  above v z p = by_both (lt epsilon v) (lt_z (pos 0) z)
-      (λ t. lt_of_lt_of_le epsilon unit v high (subst T (above_is z ∙ sym (compared unit v (pos 1) z unit_whole p).up_to) t))
-      (λ n t. never_both epsilon v t (le_trans v nought epsilon (subst T (sym (compared v nought z (pos 0) p nought_whole).up_to) (rest_is z n)) low))
+  above v z p = elim (cases_Bool (lt_z (pos 0) z)) [
+    | inl t ↦ is_true (lt epsilon v) (lt_of_lt_of_le epsilon unit v high (subst T (above_is z ∙ sym (compared unit v (pos 1) z unit_whole p).up_to) (T_from_true _ t))) ∙ sym t
+    | inr n ↦ not_below epsilon v (le_trans v nought epsilon (subst T (sym (compared v nought z (pos 0) p nought_whole).up_to) (rest_is z (T_from_false _ n))) low) ∙ sym n
+  ]
 
   below : (v : Float) (z : ℤ) → IsWhole v z → lt v (neg epsilon) ≡ lt_z z (pos 0)
   below v z p = (lt_turned v epsilon).1 ∙ above (neg v) (neg_ℤ z) (negation_whole v z p) ∙ turned_is z

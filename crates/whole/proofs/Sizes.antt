@@ -1,27 +1,16 @@
 -- How large the numbers of a formula over near whole corners can get. Assumes nothing.
-use Rattle.std.proofs.Common.{◌≡◌, ℕ, zero, suc, ◌+◌, ◌*◌, ◌^◌, ◌≤◌, ℤ, pos, negsuc, ◌+ℤ◌, ◌-ℤ◌, ◌*ℤ◌, neg_ℤ, nat_abs, refl, le_trans, le_of_eq, mul-le-mul, arith}
+use Rattle.std.proofs.Common.{◌≡◌, ℕ, ◌+◌, ◌*◌, ◌^◌, ◌≤◌, ℤ, ◌+ℤ◌, ◌-ℤ◌, ◌*ℤ◌, neg_ℤ, nat_abs, le_trans, le_of_eq, mul-le-mul, arith}
 use lib.Ieee.{Float, neg}
-use Rattle.std.proofs.lemmas.Bool.Decides.{nat_tests}
+use Rattle.std.proofs.lemmas.Int.{ints, unsigned_abs-mul}
 use Rattle.floats.specs.Operations.{◌⊕◌, ◌⊖◌, ◌⊗◌}
 use Rattle.floats.specs.Numbers.{IsWhole}
 use Rattle.floats.proofs.Whole.{sum_whole, difference_whole, product_whole, negation_whole}
 
 abs_neg : (z : ℤ) → nat_abs (neg_ℤ z) ≡ nat_abs z
-abs_neg (pos zero) = refl
-abs_neg (pos (suc n)) = refl
-abs_neg (negsuc n) = refl
+abs_neg z = grind (arith, ints)
 
 abs_add : (z w : ℤ) → nat_abs (z +ℤ w) ≤ nat_abs z + nat_abs w
-abs_add (pos a) (pos b) = omega arith
-abs_add (pos a) (negsuc b) = grind (arith, nat_tests)
-abs_add (negsuc a) (pos b) = grind (arith, nat_tests)
-abs_add (negsuc a) (negsuc b) = omega arith
-
-abs_mul : (z w : ℤ) → nat_abs (z *ℤ w) ≡ nat_abs z * nat_abs w
-abs_mul (pos a) (pos b) = refl
-abs_mul (pos a) (negsuc b) = abs_neg (pos (a * suc b))
-abs_mul (negsuc a) (pos b) = abs_neg (pos (suc a * b))
-abs_mul (negsuc a) (negsuc b) = refl
+abs_add z w = grind (arith, ints)
 
 -- x is the whole number z, within n
 pub record Near (x : Float) (z : ℤ) (n : ℕ) : Type 0 where
@@ -41,7 +30,7 @@ module _ (x y : Float) (z w : ℤ) (m n : ℕ) (p : Near x z m) (q : Near y w n)
 
   pub times : m * n ≤ 2 ^ 24 → Near (x ⊗ y) (z *ℤ w) (m * n)
   times h =
-      let b : nat_abs (z *ℤ w) ≤ m * n = le_trans (le_of_eq (abs_mul z w)) (mul-le-mul p.near q.near) in
+      let b : nat_abs (z *ℤ w) ≤ m * n = le_trans (le_of_eq (unsigned_abs-mul z w)) (mul-le-mul p.near q.near) in
       record { whole = product_whole x y z w p.whole q.whole (le_trans b h); near = b }
 
 pub turned : (x : Float) (z : ℤ) (n : ℕ) → Near x z n → Near (neg x) (neg_ℤ z) n

@@ -1,6 +1,7 @@
 -- On whole corners within 1,024 single precision answers as whole numbers do. Assumes nothing.
-use Rattle.std.specs.Prelude.{◌≡◌, ℕ, ◌<◌, ◌≤◌, Bool, true, false, ◌||◌, T, List, ℤ, pos, Some, None, Option, ◌==◌, int_lt, unsigned_abs, Float}
+use Rattle.std.specs.Prelude.{◌≡◌, ℕ, ◌<◌, ◌≤◌, Bool, true, false, ◌||◌, T, List, ℤ, pos, Option, ◌==◌, int_lt, unsigned_abs, Float}
 use Rattle.std.specs.List.{AllZip}
+use Rattle.std.specs.Option.{option_map}
 use Rattle.std.specs.Float.Ieee.{lt, le}
 use Rattle.plane.specs.declared.answer.Meet.{Meet}
 use Rattle.plane.specs.declared.answer.Meet.TheVariants.{Apart, Crossing, Overlap}
@@ -17,7 +18,7 @@ use Rattle.single.specs.Tolerance.{walking}
 use Rattle.single.specs.Triangle.{orientation_of, turn_of, against_of, passed_of}
 use Rattle.single.specs.Meets.{is_parallel, between_of, meet_of}
 use Rattle.single.specs.Single.{single}
-use Rattle.whole.specs.Spots.{Spot, minus_z, perp_z, dot_z, area_z, side_z, Place, Nowhere, AtStart, AtEnd, Within, between_z, Shape, Separate, Crosses, Overlaps, denom_z, num1_z, num2_z, meet_z, passed_z, inside_z}
+use Rattle.whole.specs.Spots.{Spot, minus_z, perp_z, dot_z, area_z, side_z, Place, between_z, denom_z, num1_z, num2_z, meet_z, passed_z, inside_z}
 
 -- how far a whole corner may lie from the origin, on each axis
 abbrev pub near : ℕ
@@ -74,13 +75,12 @@ ExactCrossing =
 
 -- where a mark stands
 abbrev pub place_of : Mark Weights → Place
-place_of Start = AtStart
-place_of (Inside w) = Within
-place_of End = AtEnd
+place_of Start = Start
+place_of (Inside w) = Inside tt
+place_of End = End
 
-abbrev pub found_at : Option (Mark Weights) → Place
-found_at None = Nowhere
-found_at (Some m) = place_of m
+abbrev pub found_at : Option (Mark Weights) → Option Place
+found_at o = option_map place_of o
 
 -- a corner on the line of an edge is found at its exact place, though the quotient is rounded, and twice where the edge goes down
 abbrev pub ExactBetween : Type 0
@@ -88,10 +88,10 @@ ExactBetween =
     (a b c : Corner) (i j k : Spot) → WholeCorner a i → WholeCorner b j → WholeCorner c k
     → found_at (between_of a b c) ≡ between_z i j k
 
-abbrev pub shape_of : Meet (Mark Weights) → Shape
-shape_of Apart = Separate
-shape_of (Crossing m n) = Crosses (place_of m) (place_of n)
-shape_of (Overlap m n o p) = Overlaps (place_of m) (place_of n) (place_of o) (place_of p)
+abbrev pub shape_of : Meet (Mark Weights) → Meet Place
+shape_of Apart = Apart
+shape_of (Crossing m n) = Crossing (place_of m) (place_of n)
+shape_of (Overlap m n o p) = Overlap (place_of m) (place_of n) (place_of o) (place_of p)
 
 -- edges meet as they do exactly, parallel or not, each mark at its exact place
 abbrev pub ExactMeet : Type 0

@@ -1,7 +1,12 @@
 -- What whole numbers answer: sides, meetings and the inside test without rounding. Assumes nothing.
-use Rattle.std.specs.Prelude.{◌%◌, Bool, true, false, cond, not, ◌&&◌, List, count_by, ℤ, pos, ◌+ℤ◌, ◌-ℤ◌, ◌*ℤ◌, neg_ℤ, ◌==◌, int_le, int_lt, unsigned_abs}
+use Rattle.std.specs.Prelude.{◌%◌, ⊤, Bool, cond, not, ◌&&◌, List, count_by, ℤ, pos, ◌+ℤ◌, ◌-ℤ◌, ◌*ℤ◌, neg_ℤ, ◌==◌, int_le, int_lt, Some, None, Option, unsigned_abs}
 use Rattle.plane.specs.declared.answer.Side.{Side}
 use Rattle.plane.specs.declared.answer.Side.TheVariants.{Left, Right, Level}
+use Rattle.plane.specs.declared.answer.Meet.{Meet}
+use Rattle.plane.specs.declared.answer.Meet.TheVariants.{Apart, Crossing}
+use Rattle.plane.specs.declared.mark.Mark.{Mark}
+use Rattle.plane.specs.declared.mark.Mark.TheVariants.{Start, Inside, End}
+use Rattle.plane.specs.Marks.{both, overlap_of}
 use Rattle.plane.specs.Rings.{edges}
 use Rattle.floats.specs.Numbers.{same_z}
 use Rattle.floats.specs.Quotients.{outside_z}
@@ -36,68 +41,46 @@ side_z z = cond (int_lt (pos 0) z) Left (cond (int_lt z (pos 0)) Right Level)
 
 -- ---- the place of a point on an edge
 
--- nowhere on it, at its start, at its end, or within
-pub data Place : Type 0 where
-  Nowhere AtStart AtEnd Within : Place
+-- at its start, at its end, or within, however far along
+abbrev pub Place : Type 0
+Place = Mark ⊤
 
--- the place at z / w of an edge, for a w that is not 0
-abbrev pub place_z : ℤ → ℤ → Place
-place_z z w = cond (outside_z z w) Nowhere (cond (same_z z (pos 0)) AtStart (cond (same_z z w) AtEnd Within))
+-- the place at z / w of an edge, for a w that is not 0, if it is on it
+abbrev pub place_z : ℤ → ℤ → Option Place
+place_z z w = cond (outside_z z w) None (Some (cond (same_z z (pos 0)) Start (cond (same_z z w) End (Inside tt))))
 
--- the place of c on the edge from a to b, for c on its line
-abbrev pub between_z : Spot → Spot → Spot → Place
+-- the place of c on the edge from a to b, for c on its line, if it is on it
+abbrev pub between_z : Spot → Spot → Spot → Option Place
 between_z a b c =
     cond (not (same_z a.x b.x)) (place_z (c.x -ℤ a.x) (b.x -ℤ a.x))
     (cond (not (same_z a.y b.y)) (place_z (c.y -ℤ a.y) (b.y -ℤ a.y))
-    (cond (same_z a.x c.x && same_z a.y c.y) AtStart Nowhere))
+    (cond (same_z a.x c.x && same_z a.y c.y) (Some Start) None))
 
 -- ---- how two edges meet, by the places of their marks
-
-pub data Shape : Type 0 where
-  Separate : Shape
-  Crosses : Place → Place → Shape
-  Overlaps : Place → Place → Place → Place → Shape
 
 -- D, S and T
 abbrev pub denom_z : Spot → Spot → Spot → Spot → ℤ
 denom_z a b c d = a.x *ℤ (d.y -ℤ c.y) +ℤ b.x *ℤ (c.y -ℤ d.y) +ℤ d.x *ℤ (b.y -ℤ a.y) +ℤ c.x *ℤ (a.y -ℤ b.y)
 
+abbrev pub num_z : Spot → Spot → Spot → ℤ
+num_z p q r = p.x *ℤ (r.y -ℤ q.y) +ℤ q.x *ℤ (p.y -ℤ r.y) +ℤ r.x *ℤ (q.y -ℤ p.y)
+
 abbrev pub num1_z : Spot → Spot → Spot → ℤ
-num1_z a c d = a.x *ℤ (d.y -ℤ c.y) +ℤ c.x *ℤ (a.y -ℤ d.y) +ℤ d.x *ℤ (c.y -ℤ a.y)
+num1_z a c d = num_z a c d
 
 abbrev pub num2_z : Spot → Spot → Spot → ℤ
-num2_z a b c = neg_ℤ (a.x *ℤ (c.y -ℤ b.y) +ℤ b.x *ℤ (a.y -ℤ c.y) +ℤ c.x *ℤ (b.y -ℤ a.y))
-
-abbrev pub is_there : Place → Bool
-is_there Nowhere = false
-is_there AtStart = true
-is_there AtEnd = true
-is_there Within = true
-
--- the shape where both places are there, and else the rest
-abbrev pub if_both : Place → Place → Shape → Shape → Shape
-if_both p q s rest = cond (is_there p && is_there q) s rest
-
--- by where c and d lie on ab, and a and b on cd: the first pair that is there
-abbrev pub overlap_z : Place → Place → Place → Place → Shape
-overlap_z c d a b =
-    if_both c d (Overlaps c AtStart d AtEnd)
-    (if_both a b (Overlaps AtStart a AtEnd b)
-    (if_both c b (Overlaps c AtStart AtEnd b)
-    (if_both c a (Overlaps c AtStart AtStart a)
-    (if_both d b (Overlaps d AtEnd AtEnd b)
-    (if_both d a (Overlaps d AtEnd AtStart a) Separate)))))
+num2_z a b c = neg_ℤ (num_z a b c)
 
 -- edges that are not parallel cross where both places are there
-abbrev pub crossing_z : Place → Place → Shape
-crossing_z p q = if_both p q (Crosses p q) Separate
+abbrev pub crossing_z : Option Place → Option Place → Meet Place
+crossing_z p q = both p q (λ m n. Crossing m n) Apart
 
 -- parallel edges are apart where c is not on the line of ab
-abbrev pub parallel_z : Spot → Spot → Spot → Spot → Shape
-parallel_z a b c d = cond (is_level (side_z (area_z a b c))) (overlap_z (between_z a b c) (between_z a b d) (between_z c d a) (between_z c d b)) Separate
+abbrev pub parallel_z : Spot → Spot → Spot → Spot → Meet Place
+parallel_z a b c d = cond (is_level (side_z (area_z a b c))) (overlap_of (between_z a b c) (between_z a b d) (between_z c d a) (between_z c d b)) Apart
 
 -- how two edges meet: parallel exactly where D is 0
-abbrev pub meet_z : Spot → Spot → Spot → Spot → Shape
+abbrev pub meet_z : Spot → Spot → Spot → Spot → Meet Place
 meet_z a b c d = cond (unsigned_abs (denom_z a b c d) == 0) (parallel_z a b c d) (crossing_z (place_z (num1_z a c d) (denom_z a b c d)) (place_z (num2_z a b c) (denom_z a b c d)))
 
 -- ---- the inside test

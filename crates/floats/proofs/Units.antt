@@ -52,8 +52,7 @@ round_in_unit s a c C f h = record { low = round_from_nought s a c C f; high = h
 -- a number that is not below 0 has a minus sign only where it is 0
 clear : (s : Bool) (n : ℕ) → T (le_z (pos 0) (signed s n)) → s ≡ true → n ≡ 0
 clear false n h e = absurd (false≢true e)
-clear true zero h e = refl
-clear true (suc n) h e = absurd h
+clear true n h e = grind (arith, ints)
 
 -- ---- finite floats
 

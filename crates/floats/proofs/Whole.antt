@@ -21,11 +21,6 @@ whole f x z r h = record {
   is = r.is;
 }
 
-pub held : WholeHeld
-unfolding of_int
-held (pos n) h = record { sign = false; size = n; value = round_whole binary32 false n h; is = refl }
-held (negsuc n) h = record { sign = true; size = suc n; value = round_whole binary32 true (suc n) h; is = refl }
-
 pub sum_whole : WholeSum
 sum_whole x y z w p q h = whole binary32 _ _ (add_rounded binary32 x y z w 1 (zero-lt-suc 0) p q) h
 
@@ -69,6 +64,9 @@ float_value : (f : Format) (z : ℤ) → nat_abs z ≤ 2 ^ prec f → HasValue (
 unfolding of_int
 float_value f (pos n) h = round_whole f false n h
 float_value f (negsuc n) h = round_whole f true (suc n) h
+
+pub held : WholeHeld
+held z h = record { sign = is_below z; size = nat_abs z; value = float_value binary32 z h; is = sym (by_parts z) }
 
 float-rounds : (f : Format) (s : Bool) (n : ℕ) → (s ≡ true → 0 < n) → round f s n 1 ≡ of_int f (signed s n)
 unfolding of_int

@@ -1,7 +1,6 @@
 pub mod Products
 pub mod Passes
 pub mod Betweens
-pub mod Meets
 pub mod Admits
 pub mod Integers
 pub mod Ring

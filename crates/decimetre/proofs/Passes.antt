@@ -2,9 +2,8 @@
 use Rattle.std.proofs.Common.{◌≡◌, Bool, true, false, cond, not, ℤ, pos, ◌-ℤ◌, sym, refl, ap, ◌∙◌, arith}
 use lib.Signed.{lt_z, le_z}
 use Rattle.std.proofs.lemmas.Int.{ints}
-use Rattle.std.proofs.lemmas.Bool.{cond-true}
 use Rattle.decimetre.specs.declared.corner.Corner.{Corner}
-use Rattle.decimetre.specs.Exact.{near3, perp, passed_of, passed_at}
+use Rattle.decimetre.specs.Exact.{perp, passed_of}
 
 -- p is below a where what leads from a to p is below 0
 below : (p a : ℤ) → lt_z p a ≡ not (le_z (pos 0) (p -ℤ a))
@@ -15,8 +14,8 @@ cond_not true x y = refl
 cond_not false x y = refl
 
 -- what the code answers, by the numbers that it reads
-pub passed_is : (p a b : Corner) (starts ends : Bool) (z : ℤ) → near3 p a b ≡ true → starts ≡ le_z (pos 0) (p.y -ℤ a.y) → ends ≡ lt_z p.y b.y → z ≡ perp p a b → cond starts (cond ends (lt_z z (pos 0)) false) (cond ends false (lt_z (pos 0) z)) ≡ passed_at p a b
-passed_is p a b starts ends z near from past is =
+pub passed_is : (p a b : Corner) (starts ends : Bool) (z : ℤ) → starts ≡ le_z (pos 0) (p.y -ℤ a.y) → ends ≡ lt_z p.y b.y → z ≡ perp p a b → cond starts (cond ends (lt_z z (pos 0)) false) (cond ends false (lt_z (pos 0) z)) ≡ passed_of p a b
+passed_is p a b starts ends z from past is =
     let on = cond (lt_z p.y b.y) (lt_z (perp p a b) (pos 0)) false in
     let off = cond (lt_z p.y b.y) false (lt_z (pos 0) (perp p a b)) in
-    rw (from, past, is) (cond_not (le_z (pos 0) (p.y -ℤ a.y)) on off ∙ ap (λ s. cond s off on) (sym (below p.y a.y)) ∙ sym (cond-true (near3 p a b) (passed_of p a b) false near))
+    rw (from, past, is) (cond_not (le_z (pos 0) (p.y -ℤ a.y)) on off ∙ ap (λ s. cond s off on) (sym (below p.y a.y)))

@@ -1,24 +1,26 @@
 -- The products of the exact arithmetic, as products of vectors. Assumes nothing.
 use Rattle.std.proofs.Common.{◌≡◌, neg_ℤ, refl}
 use Rattle.decimetre.specs.declared.corner.Corner.{Corner}
+use Rattle.decimetre.specs.declared.math.Vector2.{Vector2}
 use Rattle.decimetre.specs.Exact.{area2, num1, num2, perp, cross, dot}
-use Rattle.decimetre.specs.Vectors.{less, perp_dot, dot_of, num_of}
+use Rattle.decimetre.specs.Vectors.{Leads, perp_dot, dot_of, num_of}
 
-pub area2_is : (a b c : Corner) → perp_dot (less b a) (less c a) ≡ area2 a b c
-unfolding perp_dot area2
+pub perp_dot_is : {a b c d : Corner} {u v : Vector2} → Leads a b u → Leads c d v → perp_dot u v ≡ cross a b c d
+unfolding perp_dot cross
+perp_dot_is p q = rw (p.on_x, p.on_y, q.on_x, q.on_y) refl
+
+pub dot_is : {a b c d : Corner} {u v : Vector2} → Leads a b u → Leads c d v → dot_of u v ≡ dot a b c d
+unfolding dot_of dot
+dot_is p q = rw (p.on_x, p.on_y, q.on_x, q.on_y) refl
+
+-- an area and the inside test's product as cross products
+pub area2_is : (a b c : Corner) → cross a b a c ≡ area2 a b c
+unfolding cross area2
 area2_is a b c = refl
 
-pub perp_is : (p a b : Corner) → perp_dot (less p a) (less b a) ≡ perp p a b
-unfolding perp_dot perp
+pub perp_is : (p a b : Corner) → cross a p a b ≡ perp p a b
+unfolding cross perp
 perp_is p a b = refl
-
-pub cross_is : (a b c d : Corner) → perp_dot (less b a) (less d c) ≡ cross a b c d
-unfolding perp_dot cross
-cross_is a b c d = refl
-
-pub dot_is : (a b c d : Corner) → dot_of (less b a) (less d c) ≡ dot a b c d
-unfolding dot_of dot
-dot_is a b c d = refl
 
 pub num1_is : (a b c d : Corner) → num_of a c d ≡ num1 a b c d
 unfolding num_of num1

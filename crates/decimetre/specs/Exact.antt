@@ -173,6 +173,10 @@ exact = record {
   point_of = λ _ c. point_of c;
 }
 
+-- a corner, if it is near
+abbrev pub near_of : Corner → Option Corner
+near_of c = cond (near c) (Some c) None
+
 -- what `near` tells
 abbrev pub Near : Corner → Type 0
 Near c = (unsigned_abs c.x ≤ farthest) × (unsigned_abs c.y ≤ farthest)

@@ -1,5 +1,5 @@
 -- The marks that a meeting gives are proper. Assumes nothing.
-use Rattle.std.specs.Prelude.{◌≡◌, ◌^◌, ◌<◌, ◌≤◌, Bool, true, false, cond, ℤ, pos, ◌-ℤ◌, neg_ℤ, Some, None, Option, ◌==◌, int_lt, unsigned_abs, refl}
+use Rattle.std.specs.Prelude.{◌≡◌, ◌^◌, ◌<◌, ◌≤◌, Bool, true, false, cond, ℤ, pos, ◌+ℤ◌, ◌-ℤ◌, ◌*ℤ◌, neg_ℤ, Some, None, Option, ◌==◌, int_lt, unsigned_abs, refl}
 use Rattle.std.proofs.Common.{sym, subst, ⊎_elim, arith, lit≤}
 use Rattle.std.proofs.lemmas.Int.{ints}
 use Rattle.std.proofs.lemmas.Bool.{cond_both, and_parts}
@@ -13,7 +13,7 @@ use Rattle.decimetre.specs.declared.corner.Mark.TheVariants.{Start, Inside, End}
 use Rattle.decimetre.specs.Exact.{area2, denom, num1, num2, portion, share, crossing, between_at, both, overlap, parallel, meet_of, meet_at, near, near2, near3, near4, Near, exact, lower_of}
 use Rattle.decimetre.specs.Plane.{Proper, ProperMeet}
 use Rattle.decimetre.specs.Nears.{near_told}
-use Rattle.decimetre.specs.Numbers.{denom_bound}
+use Rattle.decimetre.specs.Numbers.{product_bound, sum_bound, difference_bound}
 
 abbrev ProperIf : Option Mark → Type 0
 ProperIf None = Unit {0}
@@ -59,6 +59,22 @@ both_proper (Some s) (Some t) f other hs ht h k = h s t hs ht
 overlap_proper : (c d a b : Option Mark) → ProperIf c → ProperIf d → ProperIf a → ProperIf b → ProperMeet (overlap c d a b)
 overlap_proper c d a b hc hd ha hb =
     both_proper c d _ _ hc hd (λ p q h k. (h, tt, k, tt)) (both_proper a b _ _ ha hb (λ p q h k. (tt, h, tt, k)) (both_proper c b _ _ hc hb (λ p q h k. (h, tt, tt, k)) (both_proper c a _ _ hc ha (λ p q h k. (h, tt, tt, k)) (both_proper d b _ _ hd hb (λ p q h k. (h, tt, tt, k)) (both_proper d a _ _ hd ha (λ p q h k. (h, tt, tt, k)) tt)))))
+
+-- D is at most 2 ^ 31 in size
+abbrev part : Corner → Corner → Corner → ℤ
+part p q r = p.x *ℤ (q.y -ℤ r.y)
+
+part_bound : (p q r : Corner) → Near p → Near q → Near r → unsigned_abs (part p q r) ≤ 536870912
+part_bound p q r h k l = product_bound p.x (q.y -ℤ r.y) 16384 32768 h.0 (difference_bound q.y r.y 16384 16384 k.1 l.1)
+
+denom_bound : (a b c d : Corner) → Near a → Near b → Near c → Near d → unsigned_abs (denom a b c d) ≤ 2 ^ 31
+unfolding denom
+denom_bound a b c d na nb nc nd =
+    let p = part a d c in
+    let q = part b c d in
+    let r = part d b a in
+    let s = part c a b in
+    sum_bound (p +ℤ q +ℤ r) s 1610612736 536870912 (sum_bound (p +ℤ q) r 1073741824 536870912 (sum_bound p q 536870912 536870912 (part_bound a d c na nd nc) (part_bound b c d nb nc nd)) (part_bound d b a nd nb na)) (part_bound c a b nc na nb)
 
 module _ (a b c d : Corner) where
   parallel_proper : Near a → Near b → Near c → Near d → ProperMeet (parallel a b c d)

@@ -1,19 +1,19 @@
 -- What leads from one corner to another, and the products of two such vectors. Assumes nothing.
-use Rattle.std.specs.Prelude.{◌≤◌, ℤ, ◌+ℤ◌, ◌-ℤ◌, ◌*ℤ◌, unsigned_abs}
+use Rattle.std.specs.Prelude.{◌≡◌, ℤ, ◌+ℤ◌, ◌-ℤ◌, ◌*ℤ◌}
 use Rattle.decimetre.specs.declared.corner.Corner.{Corner}
 use Rattle.decimetre.specs.declared.math.Vector2.{Vector2}
+use Rattle.decimetre.specs.Exact.{Near}
 
--- no longer, on each axis, than what leads from one near corner to another
-abbrev pub Short : Vector2 → Type 0
-Short v = (unsigned_abs v.x ≤ 32768) × (unsigned_abs v.y ≤ 32768)
+-- the vector v leads from a to b
+pub record Leads (a b : Corner) (v : Vector2) : Type 0 where
+  pub on_x : v.x ≡ b.x -ℤ a.x
+  pub on_y : v.y ≡ b.y -ℤ a.y
 
--- what leads from a to b
-abbrev pub less : Corner → Corner → Vector2
-less b a = record { x = b.x -ℤ a.x; y = b.y -ℤ a.y }
-
--- a corner as what leads to it from the origin
-abbrev pub wide_of : Corner → Vector2
-wide_of c = record { x = c.x; y = c.y }
+-- the vector v is the near corner c, widened
+pub record Wide (v : Vector2) (c : Corner) : Type 0 where
+  pub on_x : v.x ≡ c.x
+  pub on_y : v.y ≡ c.y
+  pub near : Near c
 
 -- the cross product
 unfoldable pub perp_dot : Vector2 → Vector2 → ℤ

@@ -6,6 +6,7 @@ pub mod corner;
 pub mod direction;
 pub mod exact;
 mod math;
+mod near;
 pub mod order;
 pub mod outline;
 pub mod point_in_poly2d;

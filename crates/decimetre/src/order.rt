@@ -13,13 +13,15 @@ pub(crate) struct Fraction {
 }
 
 /// A mark as a fraction: start is 0 over 1, end 1 over 1.
-pub(crate) fn fraction_of(m: Mark) -> Fraction
-    ensures { result ≡ record { upper = upper_of m; lower = lower_of m } }
-{
-    match m {
-        Mark::Start => Fraction { upper: 0, lower: 1 },
-        Mark::Inside { upper, lower } => Fraction { upper, lower },
-        Mark::End => Fraction { upper: 1, lower: 1 },
+impl From<Mark> for Fraction {
+    ghost from_gives = { λ m part. part ≡ record { upper = upper_of m; lower = lower_of m } };
+
+    fn from(m: Mark) -> Self {
+        match m {
+            Mark::Start => Fraction { upper: 0, lower: 1 },
+            Mark::Inside { upper, lower } => Fraction { upper, lower },
+            Mark::End => Fraction { upper: 1, lower: 1 },
+        }
     }
 }
 
@@ -27,8 +29,8 @@ pub(crate) fn fraction_of(m: Mark) -> Fraction
 pub fn not_after(m: Mark, n: Mark) -> bool
     ensures { result ≡ not_after m n }
 {
-    let first = fraction_of(m);
-    let second = fraction_of(n);
+    let first = Fraction::from(m);
+    let second = Fraction::from(n);
     first.upper as u64 * second.lower as u64 <= second.upper as u64 * first.lower as u64
 }
 

@@ -2,9 +2,7 @@
 ghost use Rattle.std.specs.Prelude.{◌≡◌, false, pos, if◌then◌else◌, int_lt};
 ghost use Rattle.decimetre.specs.Exact.{passed_at};
 
-use crate::admit::three_near;
 use crate::corner::Corner;
-use crate::math::minus;
 
 // Whether the edge counts: by whether it starts at the point's height or below, and ends above it.
 fn counts(starts: bool, ends: bool, perp: i64) -> bool
@@ -21,11 +19,11 @@ fn counts(starts: bool, ends: bool, perp: i64) -> bool
 pub fn passed(p: Corner, a: Corner, b: Corner) -> bool
     ensures { result ≡ passed_at p a b }
 {
-    if !three_near(p, a, b) {
+    let (Some(p), Some(a), Some(b)) = (p.near(), a.near(), b.near()) else {
         return false;
-    }
-    let seg_dir = minus(b, a);
-    let dpt = minus(p, a);
+    };
+    let seg_dir = b - a;
+    let dpt = p - a;
     let perp = dpt.perp_dot(seg_dir);
-    counts(dpt.y >= 0, b.y > p.y, perp)
+    counts(dpt.y >= 0, b.y > p.y, perp.value)
 }

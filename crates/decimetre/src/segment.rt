@@ -1,35 +1,40 @@
 // The points that marks and corners stand for.
-ghost use Rattle.std.specs.Prelude.{◌≡◌, ◌≤◌, pos, ◌+ℤ◌, ◌-ℤ◌, ◌*ℤ◌, unsigned_abs};
-ghost use Rattle.decimetre.specs.Exact.{farthest, point_at, point_of};
+ghost use Rattle.std.specs.Prelude.{◌≡◌};
+ghost use Rattle.decimetre.specs.Exact.{point_at, point_of};
 
-use crate::admit::both_near;
 use crate::corner::{Corner, Mark, Point};
-use crate::order::{Fraction, fraction_of};
-
-// A coordinate between p and q, over the part's lower number.
-fn weighed(p: i32, q: i32, part: Fraction) -> i64
-    requires { (unsigned_abs p ≤ farthest) × (unsigned_abs q ≤ farthest) }
-    ensures { result ≡ p *ℤ (pos part.lower -ℤ pos part.upper) +ℤ q *ℤ pos part.upper }
-{
-    p as i64 * (part.lower as i64 - part.upper as i64) + q as i64 * part.upper as i64
-}
+use crate::order::Fraction;
 
 /// The point of the mark m on the edge from a to b, the origin where one of them is not near.
 pub fn to_point(a: Corner, b: Corner, m: Mark) -> Point
     ensures { result ≡ point_at a b m }
 {
-    if !both_near(a, b) {
+    let (Some(a), Some(b)) = (a.near(), b.near()) else {
         return Point {
             x: 0,
             y: 0,
             lower: 1,
         };
-    }
-    let part = fraction_of(m);
+    };
+    let part = Fraction::from(m);
+    let before = part.lower as i64 - part.upper as i64;
+    let behind = part.upper as i64;
     Point {
-        x: weighed(a.x, b.x, part),
-        y: weighed(a.y, b.y, part),
+        x: a.x as i64 * before + b.x as i64 * behind,
+        y: a.y as i64 * before + b.y as i64 * behind,
         lower: part.lower,
+    }
+}
+
+impl From<Corner> for Point {
+    ghost from_gives = { λ c p. p ≡ point_of c };
+
+    fn from(c: Corner) -> Self {
+        Point {
+            x: c.x as i64,
+            y: c.y as i64,
+            lower: 1,
+        }
     }
 }
 
@@ -37,9 +42,5 @@ pub fn to_point(a: Corner, b: Corner, m: Mark) -> Point
 pub fn corner_point(c: Corner) -> Point
     ensures { result ≡ point_of c }
 {
-    Point {
-        x: c.x as i64,
-        y: c.y as i64,
-        lower: 1,
-    }
+    Point::from(c)
 }

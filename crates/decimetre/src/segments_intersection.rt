@@ -1,47 +1,47 @@
 // Where two edges meet.
-ghost use Rattle.std.specs.Prelude.{◌≡◌, ◌^◌, ◌≤◌, unsigned_abs};
-ghost use Rattle.decimetre.specs.Exact.{denom, portion, share, crossing, between_at, overlap, parallel, meet_at, Near};
+ghost use Rattle.std.specs.Prelude.{◌≡◌};
+ghost use Rattle.decimetre.specs.Exact.{denom, portion, share, crossing, between_at, overlap, parallel, meet_at};
 ghost use Rattle.decimetre.specs.Plane.{ProperMeet};
 ghost use Rattle.decimetre.specs.Vectors.{num_of};
 
-use crate::admit::four_near;
 use crate::corner::{Corner, Mark};
-use crate::math::{minus, wide};
-use crate::triangle::orientation2d;
+use crate::math::{Measure, Vector2};
+use crate::near::NearCorner;
+use crate::triangle::{area2_of, side_of};
 use plane::answer::{Meet, Side};
 
 // The denominator of the places on both edges: 0 where the edges are parallel.
-fn denom_of(a: Corner, b: Corner, c: Corner, d: Corner) -> i64
-    requires { (Near a) × ((Near b) × ((Near c) × (Near d))) }
-    ensures value { result ≡ denom a b c d }
-    ensures bound { unsigned_abs result ≤ 2 ^ 31 }
+fn denom_of(a: NearCorner, b: NearCorner, c: NearCorner, d: NearCorner) -> Measure
+    ensures { result ≡ denom a b c d }
 {
-    let (a, b, c, d) = (wide(a), wide(b), wide(c), wide(d));
-    a.x * (d.y - c.y) + b.x * (c.y - d.y) + d.x * (b.y - a.y) + c.x * (a.y - b.y)
+    let (a, b) = (Vector2::from(a), Vector2::from(b));
+    let (c, d) = (Vector2::from(c), Vector2::from(d));
+    Measure {
+        value: a.x * (d.y - c.y) + b.x * (c.y - d.y) + d.x * (b.y - a.y) + c.x * (a.y - b.y),
+    }
 }
 
 // The numerator of a place on an edge, but for its sign.
-fn num_of(p: Corner, q: Corner, r: Corner) -> i64
-    requires { (Near p) × ((Near q) × (Near r)) }
-    ensures value { result ≡ num_of p q r }
-    ensures bound { unsigned_abs result ≤ 2 ^ 31 }
+fn num_of(p: NearCorner, q: NearCorner, r: NearCorner) -> Measure
+    ensures { result ≡ num_of p q r }
 {
-    let (p, q, r) = (wide(p), wide(q), wide(r));
-    p.x * (r.y - q.y) + q.x * (p.y - r.y) + r.x * (q.y - p.y)
+    let (p, q, r) = (Vector2::from(p), Vector2::from(q), Vector2::from(r));
+    Measure {
+        value: p.x * (r.y - q.y) + q.x * (p.y - r.y) + r.x * (q.y - p.y),
+    }
 }
 
 // The mark at num over denom, where denom is above 0: none outside 0 to 1.
-fn portion_of(num: i64, denom: i64) -> Option<Mark>
-    requires { (unsigned_abs num ≤ 2 ^ 31) × (unsigned_abs denom ≤ 2 ^ 31) }
+fn portion_of(num: Measure, denom: Measure) -> Option<Mark>
     ensures { result ≡ portion num denom }
 {
-    if num < 0 || denom < num {
+    if num.value < 0 || denom.value < num.value {
         None
-    } else if num > 0 {
-        if num < denom {
+    } else if num.value > 0 {
+        if num.value < denom.value {
             Some(Mark::Inside {
-                upper: num as u32,
-                lower: denom as u32,
+                upper: num.value as u32,
+                lower: denom.value as u32,
             })
         } else {
             Some(Mark::End)
@@ -52,11 +52,10 @@ fn portion_of(num: i64, denom: i64) -> Option<Mark>
 }
 
 // The same where denom is not 0: its sign is made positive first.
-fn share_of(num: i64, denom: i64) -> Option<Mark>
-    requires { (unsigned_abs num ≤ 2 ^ 31) × (unsigned_abs denom ≤ 2 ^ 31) }
+fn share_of(num: Measure, denom: Measure) -> Option<Mark>
     ensures { result ≡ share num denom }
 {
-    if denom < 0 {
+    if denom.value < 0 {
         portion_of(-num, -denom)
     } else {
         portion_of(num, denom)
@@ -74,17 +73,16 @@ fn crossing_of(s: Option<Mark>, t: Option<Mark>) -> Meet<Mark>
 }
 
 // Where c lies on the edge from a to b, if it does, for three corners of one line.
-fn between(a: Corner, b: Corner, c: Corner) -> Option<Mark>
-    requires { (Near a) × ((Near b) × (Near c)) }
+fn between(a: NearCorner, b: NearCorner, c: NearCorner) -> Option<Mark>
     ensures { result ≡ between_at a b c }
 {
-    let ab = minus(b, a);
-    let ac = minus(c, a);
+    let ab = b - a;
+    let ac = c - a;
     // By x, or by y where the edge stands upright.
     if ab.x != 0 {
-        share_of(ac.x, ab.x)
+        share_of(Measure { value: ac.x }, Measure { value: ab.x })
     } else if ab.y != 0 {
-        share_of(ac.y, ab.y)
+        share_of(Measure { value: ac.y }, Measure { value: ab.y })
     } else if ac.x == 0 && ac.y == 0 {
         Some(Mark::Start)
     } else {
@@ -123,11 +121,10 @@ fn overlap_of(
 }
 
 // How two parallel edges meet: apart unless c is level with ab.
-fn parallel_intersection(a: Corner, b: Corner, c: Corner, d: Corner) -> Meet<Mark>
-    requires { (Near a) × ((Near b) × ((Near c) × (Near d))) }
+fn parallel_intersection(a: NearCorner, b: NearCorner, c: NearCorner, d: NearCorner) -> Meet<Mark>
     ensures { result ≡ parallel a b c d }
 {
-    if orientation2d(a, b, c) != Side::Level {
+    if side_of(area2_of(a, b, c)) != Side::Level {
         return Meet::Apart;
     }
     let ab_c = between(a, b, c);
@@ -142,11 +139,11 @@ pub fn segments_intersection2d(a: Corner, b: Corner, c: Corner, d: Corner) -> Me
     ensures value { result ≡ meet_at a b c d }
     ensures proper { ProperMeet result }
 {
-    if !four_near(a, b, c, d) {
+    let (Some(a), Some(b), Some(c), Some(d)) = (a.near(), b.near(), c.near(), d.near()) else {
         return Meet::Apart;
-    }
+    };
     let denom = denom_of(a, b, c, d);
-    if denom == 0 {
+    if denom.value == 0 {
         return parallel_intersection(a, b, c, d);
     }
     let s = share_of(num_of(a, c, d), denom);

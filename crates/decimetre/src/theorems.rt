@@ -3,12 +3,10 @@ ghost use Rattle.decimetre.specs.Plane.{EverySide, EveryCrossing, EveryMeeting, 
 
 /// The laws above the formulas: a side is the sign of the doubled area; a crossing's two marks are one point of the plane,
 /// of edges that are not parallel; such edges that share a point cross, and there; the inside test's rule is half open.
-pub fn plane_stands() -> u8
+pub fn plane_stands()
     ensures side { EverySide }
     ensures crossing { EveryCrossing }
     ensures meeting { EveryMeeting }
     ensures shared { EveryShared }
     ensures round { EveryRound }
-{
-    0
-}
+{}

@@ -1,28 +1,26 @@
 // On which side of an edge a corner lies.
-ghost use Rattle.std.specs.Prelude.{◌≡◌, ◌^◌, ◌≤◌, unsigned_abs};
-ghost use Rattle.decimetre.specs.Exact.{area2, side_of, side_at, Near};
+ghost use Rattle.std.specs.Prelude.{◌≡◌};
+ghost use Rattle.decimetre.specs.Exact.{area2, side_of, side_at};
 
-use crate::admit::three_near;
 use crate::corner::Corner;
-use crate::math::minus;
+use crate::math::Measure;
+use crate::near::NearCorner;
 use plane::answer::Side;
 
-// The doubled area of the triangle from a by b to c, above 0 where it turns left.
-fn area2_of(a: Corner, b: Corner, c: Corner) -> i64
-    requires { (Near a) × ((Near b) × (Near c)) }
-    ensures value { result ≡ area2 a b c }
-    ensures bound { unsigned_abs result ≤ 2 ^ 31 }
+/// The doubled area of the triangle from a by b to c, above 0 where it turns left.
+pub(crate) fn area2_of(a: NearCorner, b: NearCorner, c: NearCorner) -> Measure
+    ensures { result ≡ area2 a b c }
 {
-    minus(b, a).perp_dot(minus(c, a))
+    (b - a).perp_dot(c - a)
 }
 
-/// The side that a product tells by its sign.
-pub(crate) fn side_of(product: i64) -> Side
-    ensures { result ≡ side_of product }
+/// The side that a doubled area tells by its sign.
+pub(crate) fn side_of(area: Measure) -> Side
+    ensures { result ≡ side_of area }
 {
-    if product > 0 {
+    if area.value > 0 {
         Side::Left
-    } else if product < 0 {
+    } else if area.value < 0 {
         Side::Right
     } else {
         Side::Level
@@ -33,8 +31,8 @@ pub(crate) fn side_of(product: i64) -> Side
 pub fn orientation2d(a: Corner, b: Corner, c: Corner) -> Side
     ensures { result ≡ side_at a b c }
 {
-    if !three_near(a, b, c) {
+    let (Some(a), Some(b), Some(c)) = (a.near(), b.near(), c.near()) else {
         return Side::Level;
-    }
+    };
     side_of(area2_of(a, b, c))
 }

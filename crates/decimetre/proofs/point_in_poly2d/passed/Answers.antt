@@ -1,27 +1,20 @@
-use Rattle.std.proofs.Common.{pos, sym, ap, ◌∙◌, ap₂, lit≤}
+use Rattle.std.proofs.Common.{pos, refl, ap, ◌∙◌, ap₂, lit≤}
 use lib.Signed.{lt_z, le_z}
-use Rattle.decimetre.specs.Vectors.{perp_dot}
-use Rattle.decimetre.specs.Numbers.{narrow, value, away_y}
+use Rattle.decimetre.specs.Nears.{is_near, is_same, is_far}
+use Rattle.decimetre.specs.Numbers.{narrow, value, lead_y}
 use Rattle.decimetre.proofs.Passes.{passed_is}
-use Rattle.decimetre.proofs.Products.{perp_is}
+use Rattle.decimetre.proofs.Products.{perp_dot_is, perp_is}
 use Rattle.decimetre.proofs.point_in_poly2d.passed.Goals as goal
 
-pub minus-seg_dir-requires : goal.minus-seg_dir-requires
-minus-seg_dir-requires c = let near = c.three_near.ensures.told c.if-not-three_near.false in (near.2, near.1)
-
-pub minus-dpt-requires : goal.minus-dpt-requires
-minus-dpt-requires c = let near = c.three_near.ensures.told c.if-not-three_near.false in (near.0, near.1)
-
-pub perp_dot-perp-requires : goal.perp_dot-perp-requires
-perp_dot-perp-requires c = (c.minus-dpt.ensures.short, c.minus-seg_dir.ensures.short)
+pub returns-in_default : goal.returns-in_default
+returns-in_default c =
+    let n = c.in_default in
+    rw (is_near _ c.near.ensures n.is-0, is_near _ c.near-2.ensures n.is-1, is_far _ c.near-3.ensures n.is-2) refl
 
 pub returns : goal.returns
 returns c =
-    let p = c.args.p in
-    let a = c.args.a in
-    let b = c.args.b in
-    let near = c.three_near.ensures.told c.if-not-three_near.false in
-    let perp = c.perp_dot-perp.ensures.value ∙ ap₂ perp_dot c.minus-dpt.ensures.value c.minus-seg_dir.ensures.value ∙ perp_is p a b in
-    let starts = ap (le_z (pos 0)) (away_y p a c.minus-dpt.ensures.value c.minus-dpt.ensures.short).is in
-    let ends = ap₂ lt_z (narrow p.y near.0.1) (narrow b.y near.2.1) in
-    c.counts.ensures ∙ passed_is p a b _ _ _ (sym c.three_near.ensures.value ∙ c.if-not-three_near.false) starts ends (value c.perp_dot-perp.result c.perp_dot-perp.ensures.bound perp (lit≤ tt)).is
+    let n = c.in-Some-Some-Some in
+    let starts = ap (le_z (pos 0)) (lead_y c.sub-dpt.ensures).is in
+    let ends = ap₂ lt_z (narrow c.p.inside.y c.p.invariant.1 ∙ ap (λ k. k.y) c.p.view_is) (narrow c.b.inside.y c.b.invariant.1 ∙ ap (λ k. k.y) c.b.view_is) in
+    let perp = value c.perp.inside.value c.perp.invariant (c.perp.view_is ∙ c.perp_dot-perp.ensures ∙ perp_dot_is c.sub-dpt.ensures c.sub-seg_dir.ensures ∙ perp_is n.p n.a n.b) (lit≤ tt) in
+    rw (is_near _ c.near.ensures n.is-0, is_near _ c.near-2.ensures n.is-1, is_near _ c.near-3.ensures n.is-2, is_same c.args.p c.near.ensures n.is-0, is_same c.args.a c.near-2.ensures n.is-1, is_same c.args.b c.near-3.ensures n.is-2) (c.counts.ensures ∙ passed_is n.p n.a n.b _ _ _ starts ends perp.is)

@@ -1,0 +1,43 @@
+// Corners that are known to be near.
+ghost use Rattle.std.specs.Prelude.{◌≡◌};
+ghost use Rattle.decimetre.specs.Exact.{near_of};
+
+use crate::admit::is_near;
+use crate::corner::Corner;
+use std::marker::Model;
+
+/// A corner that is near to the origin: clauses see it as the corner.
+#[derive(Clone, Copy)]
+pub(crate) struct NearCorner {
+    pub x: i32,
+    pub y: i32,
+}
+
+impl Model for NearCorner {
+    ghost use Rattle.decimetre.specs.declared.corner.Corner.{Corner};
+    ghost use Rattle.decimetre.specs.Exact.{Near};
+
+    ghost Value = { Corner };
+
+    ghost view = { λ c. record { x = c.x; y = c.y } };
+
+    ghost invariant = { λ c. Near (record { x = c.x; y = c.y }) };
+
+    ghost inverse = { λ c. record { x = c.x; y = c.y } };
+}
+
+impl Corner {
+    /// The corner as one that is known to be near, if it is.
+    pub(crate) fn near(self) -> Option<NearCorner>
+        ensures { result ≡ near_of self }
+    {
+        if is_near(self) {
+            Some(NearCorner {
+                x: self.x,
+                y: self.y,
+            })
+        } else {
+            None
+        }
+    }
+}

@@ -7,9 +7,9 @@ use Rattle.plane.specs.declared.answer.Side.TheVariants.{Left, Right, Level}
 use Rattle.plane.specs.declared.answer.Meet.{Meet}
 use Rattle.plane.specs.declared.answer.Meet.TheVariants.{Apart, Overlap}
 use Rattle.decimetre.specs.declared.corner.Corner.{Corner}
-use Rattle.decimetre.specs.declared.corner.Mark.{Mark}
-use Rattle.decimetre.specs.declared.corner.Mark.TheVariants.{Start, End}
-use Rattle.decimetre.specs.Exact.{area2, side_of, side_at, near3, near4, denom, num1, num2, share, crossing, both, between_at, overlap, parallel, meet_of, meet_at, upper_of, lower_of, perp, passed_of, passed_at, cross}
+use Rattle.plane.specs.declared.mark.Mark.TheVariants.{Start, End}
+use Rattle.plane.specs.Marks.{both, overlap_of}
+use Rattle.decimetre.specs.Exact.{Mark, area2, side_of, side_at, near3, near4, denom, num1, num2, share, crossing, between_at, parallel, meet_of, meet_at, upper_of, lower_of, perp, passed_of, passed_at, cross}
 use Rattle.decimetre.specs.Plane.{doubled_area, SideBySign, AtOnePoint, CrossesAt, SharedCrosses, NotParallel, Climbs, HalfOpen}
 use Rattle.decimetre.proofs.Ratios.{one_place, vanishes, equal_of, above_zero}
 use Rattle.decimetre.proofs.Identities.{area_swept, perp_climbs, perp_falls, denom-cross, one_x, one_y, first_gap, second_gap}
@@ -38,7 +38,7 @@ both_any P (Some s) (Some t) f other h k = h s t
 parallel_any : (P : Meet Mark → Type 0) (a b c d : Corner) → P Apart → ((p q r s : Mark) → P (Overlap p q r s)) → P (parallel a b c d)
 parallel_any P a b c d apart over = cond_both (eqb (nat_abs (area2 a b c)) 0) _ Apart P (λ _. overlap_any (between_at a b c) (between_at a b d) (between_at c d a) (between_at c d b)) (λ _. apart)
   where
-    overlap_any : (c d a b : Option Mark) → P (overlap c d a b)
+    overlap_any : (c d a b : Option Mark) → P (overlap_of c d a b)
     overlap_any c d a b = both_any P c d _ _ (λ p q. over p Start q End) (both_any P a b _ _ (λ p q. over Start p End q) (both_any P c b _ _ (λ p q. over p Start End q) (both_any P c a _ _ (λ p q. over p Start Start q) (both_any P d b _ _ (λ p q. over p End End q) (both_any P d a _ _ (λ p q. over p End Start q) apart)))))
 
 -- the two ways of a meeting

@@ -1,7 +1,6 @@
 pub mod Products
 pub mod Passes
 pub mod Betweens
-pub mod Admits
 pub mod Integers
 pub mod Ring
 pub mod Ratios

@@ -3,9 +3,8 @@ use Rattle.std.proofs.Common.{◌≡◌, ℕ, ◌*◌, ◌<◌, ◌≤◌, Bool,
 use native.Mathlib.Nat.{le_of_mul-le-mul_left}
 use lib.Signed.{lt_z}
 use Rattle.std.proofs.lemmas.Int.{ints}
-use Rattle.decimetre.specs.declared.corner.Mark.{Mark}
-use Rattle.decimetre.specs.declared.corner.Mark.TheVariants.{Start, Inside, End}
-use Rattle.decimetre.specs.Exact.{portion, share, upper_of, lower_of}
+use Rattle.plane.specs.declared.mark.Mark.TheVariants.{Start, Inside, End}
+use Rattle.decimetre.specs.Exact.{Mark, portion, share, upper_of, lower_of}
 use Rattle.decimetre.proofs.Integers.{*ℤ_negℤ}
 use Rattle.decimetre.proofs.Ratios.{third_ratio}
 use Rattle.decimetre.proofs.Ring.{var, ◌⊗◌, ⊝◌, ring}
@@ -26,7 +25,7 @@ positive z h = omega (arith, ints)
 portion_stands : (u l : ℤ) → pos 0 <ℤ l → StandsIf u l (portion u l)
 portion_stands u l above = go (lt_z u (pos 0)) (lt_z l u) (lt_z (pos 0) u) (lt_z u l) refl refl refl refl
   where
-    go : (p q r s : Bool) → lt_z u (pos 0) ≡ p → lt_z l u ≡ q → lt_z (pos 0) u ≡ r → lt_z u l ≡ s → StandsIf u l (cond p None (cond q None (cond r (cond s (Some (Inside (nat_abs u) (nat_abs l))) (Some End)) (Some Start))))
+    go : (p q r s : Bool) → lt_z u (pos 0) ≡ p → lt_z l u ≡ q → lt_z (pos 0) u ≡ r → lt_z u l ≡ s → StandsIf u l (cond p None (cond q None (cond r (cond s (Some (Inside (record { upper = nat_abs u; lower = nat_abs l }))) (Some End)) (Some Start))))
     go true q r s e f g h = tt
     go false true r s e f g h = tt
     go false false true true e f g h = record { ratio = ap₂ ◌*ℤ◌ (positive u (omega (arith, ints))) (sym (positive l above)); parted = omega (arith, ints) }
@@ -56,7 +55,7 @@ IsMark (Some m) = Unit {0}
 portion_is : (u l : ℤ) → pos 0 ≤ℤ u → u ≤ℤ l → IsMark (portion u l)
 portion_is u l low high = go (lt_z u (pos 0)) (lt_z l u) (lt_z (pos 0) u) (lt_z u l) refl refl
   where
-    go : (p q r s : Bool) → lt_z u (pos 0) ≡ p → lt_z l u ≡ q → IsMark (cond p None (cond q None (cond r (cond s (Some (Inside (nat_abs u) (nat_abs l))) (Some End)) (Some Start))))
+    go : (p q r s : Bool) → lt_z u (pos 0) ≡ p → lt_z l u ≡ q → IsMark (cond p None (cond q None (cond r (cond s (Some (Inside (record { upper = nat_abs u; lower = nat_abs l }))) (Some End)) (Some Start))))
     go true q r s e f = omega (arith, ints)
     go false true r s e f = omega (arith, ints)
     go false false true true e f = tt

@@ -2,17 +2,25 @@
 use Rattle.std.specs.Prelude.{ℕ, ◌*◌, ◌≤◌, Bool, false, cond, ◌&&◌, ℤ, pos, ◌+ℤ◌, ◌-ℤ◌, ◌*ℤ◌, neg_ℤ, Some, None, Option, ◌==◌, int_lt, nat_le, unsigned_abs}
 use Rattle.plane.specs.declared.answer.Side.{Side}
 use Rattle.plane.specs.declared.answer.Side.TheVariants.{Left, Right, Level}
-use Rattle.plane.specs.declared.answer.End as plane
-use Rattle.plane.specs.declared.answer.End.TheVariants as ends
 use Rattle.plane.specs.declared.answer.Meet.{Meet}
-use Rattle.plane.specs.declared.answer.Meet.TheVariants.{Apart, Crossing, Overlap}
+use Rattle.plane.specs.declared.answer.Meet.TheVariants.{Apart, Crossing}
+use Rattle.plane.specs.declared.mark.Mark as marks
+use Rattle.plane.specs.declared.mark.Mark.TheVariants.{Start, Inside, End}
+use Rattle.plane.specs.declared.pair.Pair as pairs
+use Rattle.plane.specs.Marks.{end_of, overlap_of}
 use Rattle.plane.specs.Meaning.{Meaning}
 use Rattle.decimetre.specs.declared.corner.Decimetre.{Decimetre}
-use Rattle.decimetre.specs.declared.corner.Pair.{Pair}
 use Rattle.decimetre.specs.declared.corner.Corner.{Corner}
-use Rattle.decimetre.specs.declared.corner.Mark.{Mark}
-use Rattle.decimetre.specs.declared.corner.Mark.TheVariants.{Start, Inside, End}
+use Rattle.decimetre.specs.declared.corner.Fraction.{Fraction}
 use Rattle.decimetre.specs.declared.corner.Point.{Point}
+
+-- two whole numbers that may become a corner
+abbrev pub Pair : Type 0
+Pair = pairs.Pair ℤ
+
+-- a position on an edge: inside it, the part that lies before
+abbrev pub Mark : Type 0
+Mark = marks.Mark Fraction
 
 -- the farthest that a corner may lie from the origin, on each axis
 abbrev pub farthest : ℕ
@@ -51,7 +59,7 @@ num2 a b c d = neg_ℤ (a.x *ℤ (c.y -ℤ b.y) +ℤ b.x *ℤ (a.y -ℤ c.y) +�
 
 -- the mark at u over l, where l is above 0: none outside 0 to 1
 abbrev pub portion : ℤ → ℤ → Option Mark
-portion u l = cond (int_lt u (pos 0)) None (cond (int_lt l u) None (cond (int_lt (pos 0) u) (cond (int_lt u l) (Some (Inside (unsigned_abs u) (unsigned_abs l))) (Some End)) (Some Start)))
+portion u l = cond (int_lt u (pos 0)) None (cond (int_lt l u) None (cond (int_lt (pos 0) u) (cond (int_lt u l) (Some (Inside (record { upper = unsigned_abs u; lower = unsigned_abs l }))) (Some End)) (Some Start)))
 
 -- the same where l is not 0: its sign is made positive first
 abbrev pub share : ℤ → ℤ → Option Mark
@@ -67,43 +75,29 @@ crossing (Some s) (Some t) = Crossing s t
 abbrev pub between_at : Corner → Corner → Corner → Option Mark
 between_at a b c = cond (unsigned_abs (b.x -ℤ a.x) == 0) (cond (unsigned_abs (b.y -ℤ a.y) == 0) (cond (unsigned_abs (c.x -ℤ a.x) == 0) (cond (unsigned_abs (c.y -ℤ a.y) == 0) (Some Start) None) None) (share (c.y -ℤ a.y) (b.y -ℤ a.y))) (share (c.x -ℤ a.x) (b.x -ℤ a.x))
 
-abbrev pub both : Option Mark → Option Mark → (Mark → Mark → Meet Mark) → Meet Mark → Meet Mark
-both None t f other = other
-both (Some s) None f other = other
-both (Some s) (Some t) f other = f s t
-
--- how two edges of one line overlap, by where c and d lie on ab, and a and b on cd
-abbrev pub overlap : Option Mark → Option Mark → Option Mark → Option Mark → Meet Mark
-overlap c d a b = both c d (λ p q. Overlap p Start q End) (both a b (λ p q. Overlap Start p End q) (both c b (λ p q. Overlap p Start End q) (both c a (λ p q. Overlap p Start Start q) (both d b (λ p q. Overlap p End End q) (both d a (λ p q. Overlap p End Start q) Apart)))))
-
 -- how two parallel edges meet: apart unless c is level with ab
 abbrev pub parallel : Corner → Corner → Corner → Corner → Meet Mark
-parallel a b c d = cond (unsigned_abs (area2 a b c) == 0) (overlap (between_at a b c) (between_at a b d) (between_at c d a) (between_at c d b)) Apart
+parallel a b c d = cond (unsigned_abs (area2 a b c) == 0) (overlap_of (between_at a b c) (between_at a b d) (between_at c d a) (between_at c d b)) Apart
 
 -- how two edges meet: parallel exactly where D is 0
 abbrev pub meet_of : Corner → Corner → Corner → Corner → Meet Mark
 meet_of a b c d = cond (unsigned_abs (denom a b c d) == 0) (parallel a b c d) (crossing (share (num1 a b c d) (denom a b c d)) (share (num2 a b c d) (denom a b c d)))
 
 -- a mark as a fraction: start is 0 over 1, end 1 over 1
+abbrev pub part_of : Mark → Fraction
+part_of Start = record { upper = 0; lower = 1 }
+part_of (Inside part) = part
+part_of End = record { upper = 1; lower = 1 }
+
 abbrev pub upper_of : Mark → ℕ
-upper_of Start = 0
-upper_of (Inside u l) = u
-upper_of End = 1
+upper_of m = (part_of m).upper
 
 abbrev pub lower_of : Mark → ℕ
-lower_of Start = 1
-lower_of (Inside u l) = l
-lower_of End = 1
+lower_of m = (part_of m).lower
 
 -- by cross multiplication
 abbrev pub not_after : Mark → Mark → Bool
 not_after m n = nat_le (upper_of m * lower_of n) (upper_of n * lower_of m)
-
--- the end at which a mark stands
-abbrev pub end_of : Mark → Option plane.End
-end_of Start = Some ends.Start
-end_of (Inside u l) = None
-end_of End = Some ends.Finish
 
 -- the product that a round of the inside test judges by
 unfoldable pub perp : Corner → Corner → Corner → ℤ

@@ -1,5 +1,4 @@
 pub mod Exact
-pub mod Held
 pub mod Plane
 pub mod Vectors
 pub mod Laws

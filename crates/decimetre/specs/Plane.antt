@@ -5,14 +5,13 @@ use Rattle.plane.specs.declared.answer.Side.TheVariants.{Left, Right, Level}
 use Rattle.plane.specs.declared.answer.Meet.{Meet}
 use Rattle.plane.specs.declared.answer.Meet.TheVariants.{Apart, Crossing, Overlap}
 use Rattle.decimetre.specs.declared.corner.Corner.{Corner}
-use Rattle.decimetre.specs.declared.corner.Mark.{Mark}
-use Rattle.decimetre.specs.declared.corner.Mark.TheVariants.{Start, Inside, End}
-use Rattle.decimetre.specs.Exact.{upper_of, lower_of, cross, near3, near4, side_at, meet_at, passed_at}
+use Rattle.plane.specs.declared.mark.Mark.TheVariants.{Start, Inside, End}
+use Rattle.decimetre.specs.Exact.{Mark, upper_of, lower_of, cross, near3, near4, side_at, meet_at, passed_at}
 
 -- an inside mark is a proper fraction with a positive lower number
 abbrev pub Proper : Mark → Type 0
 Proper Start = Unit {0}
-Proper (Inside u l) = (0 < u) × (u < l) × (l ≤ 2 ^ 31)
+Proper (Inside part) = (0 < part.upper) × (part.upper < part.lower) × (part.lower ≤ 2 ^ 31)
 Proper End = Unit {0}
 
 abbrev pub ProperMeet : Meet Mark → Type 0

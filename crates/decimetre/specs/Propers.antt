@@ -8,9 +8,9 @@ use Rattle.plane.specs.declared.answer.Meet.TheVariants.{Apart, Crossing, Overla
 use Rattle.plane.specs.Meaning.{Marks, Given}
 use Rattle.decimetre.specs.declared.corner.Corner.{Corner}
 use Rattle.decimetre.specs.declared.corner.Decimetre.{Decimetre}
-use Rattle.decimetre.specs.declared.corner.Mark.{Mark}
-use Rattle.decimetre.specs.declared.corner.Mark.TheVariants.{Start, Inside, End}
-use Rattle.decimetre.specs.Exact.{area2, denom, num1, num2, portion, share, crossing, between_at, both, overlap, parallel, meet_of, meet_at, near, near2, near3, near4, Near, exact, lower_of}
+use Rattle.plane.specs.declared.mark.Mark.TheVariants.{Start, Inside, End}
+use Rattle.plane.specs.Marks.{both, overlap_of}
+use Rattle.decimetre.specs.Exact.{Mark, area2, denom, num1, num2, portion, share, crossing, between_at, parallel, meet_of, meet_at, near, near2, near3, near4, Near, exact, lower_of}
 use Rattle.decimetre.specs.Plane.{Proper, ProperMeet}
 use Rattle.decimetre.specs.Nears.{near_told}
 use Rattle.decimetre.specs.Numbers.{product_bound, sum_bound, difference_bound}
@@ -22,7 +22,7 @@ ProperIf (Some m) = Proper m
 portion_proper : (u l : ℤ) → unsigned_abs l ≤ 2 ^ 31 → ProperIf (portion u l)
 portion_proper u l bound = go (int_lt u (pos 0)) (int_lt l u) (int_lt (pos 0) u) (int_lt u l) refl refl
   where
-    go : (a b c d : Bool) → int_lt (pos 0) u ≡ c → int_lt u l ≡ d → ProperIf (cond a None (cond b None (cond c (cond d (Some (Inside (unsigned_abs u) (unsigned_abs l))) (Some End)) (Some Start))))
+    go : (a b c d : Bool) → int_lt (pos 0) u ≡ c → int_lt u l ≡ d → ProperIf (cond a None (cond b None (cond c (cond d (Some (Inside (record { upper = unsigned_abs u; lower = unsigned_abs l }))) (Some End)) (Some Start))))
     go true b c d p q = tt
     go false true c d p q = tt
     go false false true true p q = (omega (arith, ints), omega (arith, ints), bound)
@@ -56,7 +56,7 @@ both_proper None t f other hs ht h k = k
 both_proper (Some s) None f other hs ht h k = k
 both_proper (Some s) (Some t) f other hs ht h k = h s t hs ht
 
-overlap_proper : (c d a b : Option Mark) → ProperIf c → ProperIf d → ProperIf a → ProperIf b → ProperMeet (overlap c d a b)
+overlap_proper : (c d a b : Option Mark) → ProperIf c → ProperIf d → ProperIf a → ProperIf b → ProperMeet (overlap_of c d a b)
 overlap_proper c d a b hc hd ha hb =
     both_proper c d _ _ hc hd (λ p q h k. (h, tt, k, tt)) (both_proper a b _ _ ha hb (λ p q h k. (tt, h, tt, k)) (both_proper c b _ _ hc hb (λ p q h k. (h, tt, tt, k)) (both_proper c a _ _ hc ha (λ p q h k. (h, tt, tt, k)) (both_proper d b _ _ hd hb (λ p q h k. (h, tt, tt, k)) (both_proper d a _ _ hd ha (λ p q h k. (h, tt, tt, k)) tt)))))
 
@@ -79,7 +79,7 @@ denom_bound a b c d na nb nc nd =
 module _ (a b c d : Corner) where
   parallel_proper : Near a → Near b → Near c → Near d → ProperMeet (parallel a b c d)
   parallel_proper na nb nc nd =
-      cond_both (unsigned_abs (area2 a b c) == 0) (overlap (between_at a b c) (between_at a b d) (between_at c d a) (between_at c d b)) Apart ProperMeet (λ _. overlap_proper (between_at a b c) (between_at a b d) (between_at c d a) (between_at c d b) (between_proper a b c na nb) (between_proper a b d na nb) (between_proper c d a nc nd) (between_proper c d b nc nd)) (λ _. tt)
+      cond_both (unsigned_abs (area2 a b c) == 0) (overlap_of (between_at a b c) (between_at a b d) (between_at c d a) (between_at c d b)) Apart ProperMeet (λ _. overlap_proper (between_at a b c) (between_at a b d) (between_at c d a) (between_at c d b) (between_proper a b c na nb) (between_proper a b d na nb) (between_proper c d a nc nd) (between_proper c d b nc nd)) (λ _. tt)
 
   meet_proper : Near a → Near b → Near c → Near d → ProperMeet (meet_of a b c d)
   meet_proper na nb nc nd =
@@ -108,5 +108,5 @@ given_proper self m h = mark_proper m _ (at_proper h.from h.to h.from' h.to') h.
 
 pub lower_positive : (m : Mark) → Proper m → 0 < lower_of m
 lower_positive Start p = lit≤ tt
-lower_positive (Inside u l) p = omega arith
+lower_positive (Inside part) p = omega arith
 lower_positive End p = lit≤ tt

@@ -8,7 +8,6 @@ pub mod exact;
 mod math;
 mod near;
 pub mod order;
-pub mod outline;
 pub mod point_in_poly2d;
 pub mod segment;
 pub mod segments_intersection;

@@ -1,25 +1,17 @@
 // Where marks stand on their edge.
 ghost use Rattle.std.specs.Prelude.{◌≡◌};
-ghost use Rattle.decimetre.specs.Exact.{upper_of, lower_of, not_after, end_of};
+ghost use Rattle.decimetre.specs.Exact.{part_of, not_after};
 
-use crate::corner::Mark;
-use plane::answer::End;
-
-/// What part of an edge lies before a mark.
-#[derive(Clone, Copy)]
-pub(crate) struct Fraction {
-    pub upper: u32,
-    pub lower: u32,
-}
+use crate::corner::{Fraction, Mark};
 
 /// A mark as a fraction: start is 0 over 1, end 1 over 1.
 impl From<Mark> for Fraction {
-    ghost from_gives = { λ m part. part ≡ record { upper = upper_of m; lower = lower_of m } };
+    ghost from_gives = { λ m part. part ≡ part_of m };
 
     fn from(m: Mark) -> Self {
         match m {
             Mark::Start => Fraction { upper: 0, lower: 1 },
-            Mark::Inside { upper, lower } => Fraction { upper, lower },
+            Mark::Inside(part) => part,
             Mark::End => Fraction { upper: 1, lower: 1 },
         }
     }
@@ -32,15 +24,4 @@ pub fn not_after(m: Mark, n: Mark) -> bool
     let first = Fraction::from(m);
     let second = Fraction::from(n);
     first.upper as u64 * second.lower as u64 <= second.upper as u64 * first.lower as u64
-}
-
-/// The end of its edge at which a mark stands, if it stands at one.
-pub fn end_of(m: Mark) -> Option<End>
-    ensures { result ≡ end_of m }
-{
-    match m {
-        Mark::Start => Some(End::Start),
-        Mark::Inside { .. } => None,
-        Mark::End => Some(End::Finish),
-    }
 }

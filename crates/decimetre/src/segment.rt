@@ -2,8 +2,7 @@
 ghost use Rattle.std.specs.Prelude.{◌≡◌};
 ghost use Rattle.decimetre.specs.Exact.{point_at, point_of};
 
-use crate::corner::{Corner, Mark, Point};
-use crate::order::Fraction;
+use crate::corner::{Corner, Fraction, Mark, Point};
 
 /// The point of the mark m on the edge from a to b, the origin where one of them is not near.
 pub fn to_point(a: Corner, b: Corner, m: Mark) -> Point

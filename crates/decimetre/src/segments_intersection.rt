@@ -1,14 +1,15 @@
 // Where two edges meet.
 ghost use Rattle.std.specs.Prelude.{◌≡◌};
-ghost use Rattle.decimetre.specs.Exact.{denom, portion, share, crossing, between_at, overlap, parallel, meet_at};
+ghost use Rattle.decimetre.specs.Exact.{denom, portion, share, crossing, between_at, parallel, meet_at};
 ghost use Rattle.decimetre.specs.Plane.{ProperMeet};
 ghost use Rattle.decimetre.specs.Vectors.{num_of};
 
-use crate::corner::{Corner, Mark};
+use crate::corner::{Corner, Fraction, Mark};
 use crate::math::{Measure, Vector2};
 use crate::near::NearCorner;
 use crate::triangle::{area2_of, side_of};
 use plane::answer::{Meet, Side};
+use plane::mark::overlap;
 
 // The denominator of the places on both edges: 0 where the edges are parallel.
 fn denom_of(a: NearCorner, b: NearCorner, c: NearCorner, d: NearCorner) -> Measure
@@ -39,10 +40,10 @@ fn portion_of(num: Measure, denom: Measure) -> Option<Mark>
         None
     } else if num.value > 0 {
         if num.value < denom.value {
-            Some(Mark::Inside {
+            Some(Mark::Inside(Fraction {
                 upper: num.value as u32,
                 lower: denom.value as u32,
-            })
+            }))
         } else {
             Some(Mark::End)
         }
@@ -90,36 +91,6 @@ fn between(a: NearCorner, b: NearCorner, c: NearCorner) -> Option<Mark>
     }
 }
 
-// How two edges of one line overlap, by where c and d lie on ab, and a and b on cd.
-fn overlap_of(
-    ab_c: Option<Mark>,
-    ab_d: Option<Mark>,
-    cd_a: Option<Mark>,
-    cd_b: Option<Mark>,
-) -> Meet<Mark>
-    ensures { result ≡ overlap ab_c ab_d cd_a cd_b }
-{
-    if let (Some(loc1), Some(loc2)) = (ab_c, ab_d) {
-        return Meet::Overlap(loc1, Mark::Start, loc2, Mark::End);
-    }
-    if let (Some(loc1), Some(loc2)) = (cd_a, cd_b) {
-        return Meet::Overlap(Mark::Start, loc1, Mark::End, loc2);
-    }
-    if let (Some(loc1), Some(loc2)) = (ab_c, cd_b) {
-        return Meet::Overlap(loc1, Mark::Start, Mark::End, loc2);
-    }
-    if let (Some(loc1), Some(loc2)) = (ab_c, cd_a) {
-        return Meet::Overlap(loc1, Mark::Start, Mark::Start, loc2);
-    }
-    if let (Some(loc1), Some(loc2)) = (ab_d, cd_b) {
-        return Meet::Overlap(loc1, Mark::End, Mark::End, loc2);
-    }
-    if let (Some(loc1), Some(loc2)) = (ab_d, cd_a) {
-        return Meet::Overlap(loc1, Mark::End, Mark::Start, loc2);
-    }
-    Meet::Apart
-}
-
 // How two parallel edges meet: apart unless c is level with ab.
 fn parallel_intersection(a: NearCorner, b: NearCorner, c: NearCorner, d: NearCorner) -> Meet<Mark>
     ensures { result ≡ parallel a b c d }
@@ -131,7 +102,7 @@ fn parallel_intersection(a: NearCorner, b: NearCorner, c: NearCorner, d: NearCor
     let ab_d = between(a, b, d);
     let cd_a = between(c, d, a);
     let cd_b = between(c, d, b);
-    overlap_of(ab_c, ab_d, cd_a, cd_b)
+    overlap(ab_c, ab_d, cd_a, cd_b)
 }
 
 /// How the edges from a to b and from c to d meet, apart where a corner is not near.

@@ -7,9 +7,17 @@ const STAR: [u8; 31] = [
     0x00, 0x06, 0x00, 0x05, 0x12, 0xff, 0xfa, 0x00, 0x05, 0x12, 0x00, 0x00, 0xff, 0xf9, 0x14,
 ];
 
-const ONE: [(i32, i32); 3] = [(-6, -3), (6, -3), (0, 9)];
+const ONE: [Pair; 3] = [
+    Pair { x: -6, y: -3 },
+    Pair { x: 6, y: -3 },
+    Pair { x: 0, y: 9 },
+];
 
-const TWO: [(i32, i32); 3] = [(6, 5), (-6, 5), (0, -7)];
+const TWO: [Pair; 3] = [
+    Pair { x: 6, y: 5 },
+    Pair { x: -6, y: 5 },
+    Pair { x: 0, y: -7 },
+];
 
 /// Kinds that the format does not have.
 const STRANGE: [u8; 5] = [0x00, 0x10, 0x13, 0x15, 0xff];
@@ -30,59 +38,43 @@ fn tells(bytes: &[u8], number: u8, place: usize) -> bool {
     }
 }
 
-fn are(pairs: &[Pair], want: [(i32, i32); 3]) -> bool {
-    for i in 0..3 {
-        if i >= pairs.len() || pairs[i].x != want[i].0 || pairs[i].y != want[i].1 {
-            return false;
-        }
+/// The star, with these bytes from an offset on.
+fn star_with(at: usize, bytes: &[u8]) -> [u8; 31] {
+    let mut star = STAR;
+    for (place, byte) in star.iter_mut().skip(at).zip(bytes) {
+        *place = *byte;
     }
-    pairs.len() == 3
+    star
 }
 
 fn star_reads() -> bool {
-    match Job::read(&STAR) {
-        Ok(job) => are(job.one.as_slice(), ONE) && are(job.two.as_slice(), TWO),
-        Err(_) => false,
-    }
+    Job::read(&STAR).is_ok_and(|job| {
+        job.one.as_slice() == ONE.as_slice() && job.two.as_slice() == TWO.as_slice()
+    })
 }
 
 fn truncations_tell() -> bool {
-    for n in 0..31 {
-        if !tells(&STAR[0..n], 13, n / 5 * 5) {
-            return false;
-        }
-    }
-    true
+    (0..31).all(|n| tells(&STAR[0..n], 13, n / 5 * 5))
 }
 
 fn strange_kinds_tell() -> bool {
-    for k in 0..7 {
-        for kind in STRANGE {
-            let mut bytes = STAR;
-            bytes[5 * k] = kind;
-            if !tells(&bytes, 12, 5 * k) {
-                return false;
-            }
-        }
-    }
-    true
+    (0..7).all(|k| {
+        STRANGE
+            .iter()
+            .all(|kind| tells(&star_with(5 * k, &[*kind]), 12, 5 * k))
+    })
 }
 
 fn far_corners_tell() -> bool {
-    for k in 0..6 {
-        for (high, low, number) in FAR {
-            let mut bytes = STAR;
-            bytes[5 * k + 1] = high;
-            bytes[5 * k + 2] = low;
-            let mut other = STAR;
-            other[5 * k + 3] = high;
-            other[5 * k + 4] = low;
-            if !tells(&bytes, number, 5 * k) || !tells(&other, number, 5 * k) {
-                return false;
-            }
-        }
-    }
-    true
+    (0..6).all(|k| {
+        FAR.iter().all(|(high, low, number)| {
+            [1, 3].iter().all(|axis| tells(
+                &star_with(5 * k + axis, &[*high, *low]),
+                *number,
+                5 * k,
+            ))
+        })
+    })
 }
 
 /// 1,024 corners at 4,369 on both axes, and then the end or one more.

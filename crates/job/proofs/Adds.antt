@@ -1,19 +1,13 @@
 -- One corner added to a ring, or refused. Assumes nothing.
 use Rattle.std.proofs.Common.{◌≡◌, ℕ, ◌+◌, ◌<◌, ◌≤◌, true, false, ◌⊎◌, List, [], ◌∷◌, ◌++◌, length, is_some, Some, None, Ok, Err, Option, Result, sym, refl, ap, ◌∙◌, inl, inr, arith}
-use Rattle.std.proofs.lemmas.List.{length_push, length-take-le}
+use Rattle.std.proofs.lemmas.List.{length_push}
 use Rattle.std.proofs.lemmas.Bool.{cases_lt, lt-ltb, le-ltb, true≢false, false≢true}
 use Rattle.plane.specs.Refusals.{Told, tells}
 use Rattle.plane.specs.Outlines.{most_corners}
 use Rattle.decimetre.specs.declared.corner.Pair.{Pair}
 use Rattle.decimetre.specs.declared.corner.Corner.{Corner}
 use Rattle.decimetre.specs.Exact.{admitted}
-use Rattle.job.specs.declared.pairs.Pairs.{Pairs}
 use Rattle.job.specs.Format.{pair_at, and_then, fitting, added}
-use Rattle.job.specs.Held.{pairs_of}
-
--- as many pairs are held as the count says
-pub held_length : (held : Pairs) → length (pairs_of held) ≡ held.len
-held_length held = length-take-le held.len held.pairs (omega arith)
 
 -- what comes after a pair
 abbrev grown : ℕ → List Pair → Pair → Option Corner → Result (List Pair) Told

@@ -1,5 +1,4 @@
 pub mod Numbers
-pub mod Records
 pub mod Adds
 pub mod Readings
 pub mod Splits

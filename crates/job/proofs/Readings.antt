@@ -1,7 +1,8 @@
 -- The reading one record at a time. Assumes nothing.
 use Rattle.std.proofs.Common.{◌≡◌, ℕ, zero, suc, ◌+◌, ◌≤◌, List, [], ◌∷◌, length, drop, Ok, Err, Result, sym, refl, ap, ◌∙◌, arith}
-use Rattle.std.proofs.lemmas.List.{length-drop}
-use Rattle.plane.specs.Refusals.{Told}
+use Rattle.std.proofs.lemmas.List.{length-drop, drop-drop}
+use Rattle.std.proofs.Math.Seq.{drop-length}
+use Rattle.plane.specs.Refusals.{Told, tells}
 use Rattle.decimetre.specs.declared.corner.Pair.{Pair}
 use Rattle.plane.specs.declared.ring.Ring.{Ring}
 use Rattle.job.specs.declared.reader.Kind.{Kind}
@@ -75,3 +76,13 @@ module _ (at : ℕ) (l : Lists) (left : List ℕ) where
         go : (r : Result (List Pair) Told) → r ≡ added at (pairs_in ring l) left → 5 ≤ length left
         go (Ok qs) p = long at (pairs_in ring l) left qs p
         go (Err t) p = let q = ap (λ r. and_then r (λ ps. Ok (puts ring ps l))) p in let z : ◌≡◌ {A = ℕ} 0 1 = cc in omega arith
+
+-- of all bytes: nothing is left at their end
+pub reads_none : (bytes : List ℕ) (at : ℕ) (l : Lists) → at ≡ length bytes → Err (tells 13 (length bytes)) ≡ read_from at l (drop at bytes)
+reads_none bytes at l e = rw (e, drop-length bytes) (reads_refused (length bytes) l [] (tells 13 (length bytes)) refl)
+
+-- and a corner's record leads on to the next
+pub reads_on : (bytes : List ℕ) (at : ℕ) (l m : Lists) (ring : Ring) → Ok (kind.Corner ring) ≡ kind_at at (drop at bytes) → Ok m ≡ and_then (added at (pairs_in ring l) (drop at bytes)) (λ ps. Ok (puts ring ps l)) → (at + 5 ≤ length bytes) × (read_from (at + 5) m (drop (at + 5) bytes) ≡ read_from at l (drop at bytes))
+reads_on bytes at l m ring k a =
+    let h = corner_long at l (drop at bytes) ring k m a in
+    (omega (arith, simp length-drop at h), ap (read_from (at + 5) m) (sym (drop-drop 5 at bytes)) ∙ corner_read at l (drop at bytes) ring k m a)

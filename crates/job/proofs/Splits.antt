@@ -1,9 +1,9 @@
 -- Bytes as good records and a rest whose first record decides. Assumes nothing.
-use Rattle.std.proofs.Common.{◌≡◌, ℕ, zero, suc, ◌+◌, ◌<◌, ◌≤◌, Bool, true, false, ◌⊎◌, List, [], ◌∷◌, ◌++◌, map, length, get_or, is_some, Ok, Err, filter, Result, sym, refl, ap, ◌∙◌, subst, ap₂, subst₂, inl, inr, add-zero, zero-add, arith, w8, Fits}
+use Rattle.std.proofs.Common.{◌≡◌, ℕ, zero, suc, ◌+◌, ◌<◌, ◌≤◌, Bool, true, false, ◌⊎◌, List, [], ◌∷◌, ◌++◌, map, length, get_or, is_some, None, Ok, Err, filter, Result, sym, refl, ap, ◌∙◌, subst, ap₂, subst₂, inl, inr, add-zero, zero-add, arith, w8, Fits}
 use Rattle.std.proofs.lemmas.List.{append-nil, append_assoc, map-append, length-append, length_push}
 use Rattle.std.proofs.lemmas.List.Elements.{filter-append}
 use Rattle.std.proofs.ByRecursion.{All-append, All-from_get_or, All-map}
-use Rattle.std.proofs.lemmas.Bool.{cases_lt, cases_eq, lt-ltb, le-ltb}
+use Rattle.std.proofs.lemmas.Bool.{cases_lt, cases_eq, lt-ltb, le-ltb, ne_eqb}
 use Rattle.std.specs.List.{AllByRecursion as All}
 use Rattle.plane.specs.Refusals.{Told, tells}
 use Rattle.plane.specs.Outlines.{most_corners}
@@ -17,9 +17,11 @@ use Rattle.job.specs.Format.{kind_byte, InTwoBytes, number_bytes, number_of, Rec
 use Rattle.job.specs.Laws.{same_ring, of_ring, rings_of, corners, Fine, Front, Split, Written, ReadsBack, ListsReadBack, OnlySo}
 use Rattle.job.specs.Laws.Front.{ended, missing, strange, full, cut, wild}
 use Rattle.job.proofs.Numbers.{number_back, fine_in_two, in_two, bytes_back}
-use Rattle.job.proofs.Records.{no_kind}
 use Rattle.job.proofs.Adds as adds
 use Rattle.job.proofs.Readings.{reads_refused, reads_end, corner_refused, corner_read}
+
+no_kind : (b : ℕ) → (b ≡ 17 → ⊥) → (b ≡ 18 → ⊥) → (b ≡ 20 → ⊥) → kind_of b ≡ None
+no_kind b p q r = rw (ne_eqb b 17 p, ne_eqb b 18 q, ne_eqb b 20 r) refl
 
 -- a kind is read back from its byte, and a byte from its kind
 kind_back : (at : ℕ) (k : Kind) → Ok k ≡ known at (kind_of (kind_byte k))

@@ -1,11 +1,11 @@
 // Jobs, read from bytes.
-ghost use Rattle.std.specs.Prelude.{◌≡◌, true, drop, is_err, Ok};
+ghost use Rattle.std.specs.Prelude.{◌≡◌, true, is_err, Ok};
 ghost use Rattle.job.specs.Format.{added, and_then, pairs_in, puts, read_job, seen};
 ghost use Rattle.job.specs.Held.{lists_of};
 ghost use Rattle.job.specs.Laws.{Split};
 
 use crate::pairs::Pairs;
-use crate::reader::{CORNER_BYTES, Kind, kind_at};
+use crate::reader::{CORNER_BYTES, Kind, Rest};
 use plane::refusal::Refusal;
 use plane::ring::Ring;
 
@@ -17,14 +17,14 @@ pub struct Job {
 }
 
 impl Job {
-    /// Adds the corner's record at the offset `at` to a ring.
-    fn add(&mut self, ring: Ring, bytes: &[u8], at: usize) -> Result<(), Refusal>
-        ensures value { seen (λ _. lists_of self.new) result ≡ and_then (added at (pairs_in ring (lists_of self.old)) (drop at bytes.now)) (λ ps. Ok (puts ring ps (lists_of self.old))) }
+    /// Adds the corner's record that the rest begins with to a ring.
+    fn add(&mut self, ring: Ring, rest: &Rest) -> Result<(), Refusal>
+        ensures value { seen (λ _. lists_of self.new) result ≡ and_then (added rest.now.at (pairs_in ring (lists_of self.old)) rest.now.bytes.now) (λ ps. Ok (puts ring ps (lists_of self.old))) }
         ensures kept { is_err result ≡ true → self.new ≡ self.old }
     {
         match ring {
-            Ring::One => self.one.add(bytes, at),
-            Ring::Two => self.two.add(bytes, at),
+            Ring::One => self.one.add(rest),
+            Ring::Two => self.two.add(rest),
         }
     }
 
@@ -37,11 +37,16 @@ impl Job {
             one: Pairs::new(),
             two: Pairs::new(),
         };
-        let mut at = 0;
-        while let Kind::Corner(ring) = kind_at(bytes, at)? {
-            job.add(ring, bytes, at)?;
-            at += CORNER_BYTES;
+        for at in (0..bytes.len()).step_by(CORNER_BYTES) {
+            let rest = Rest {
+                at,
+                bytes: &bytes[at..],
+            };
+            match rest.kind()? {
+                Kind::Corner(ring) => job.add(ring, &rest)?,
+                Kind::End => return Ok(job),
+            }
         }
-        Ok(job)
+        Err(Refusal::CutShort(bytes.len()))
     }
 }

@@ -1,42 +1,52 @@
 -- What is left gives the answer, from record to record.
-use Rattle.std.proofs.Common.{◌+◌, ◌≤◌, length, drop, Ok, sym, ap, ◌∙◌, arith}
-use Rattle.std.proofs.lemmas.List.{length-drop, drop-drop}
+use Rattle.std.proofs.Common.{◌≡◌, ◌+◌, length, Ok, Err, sym, ap, ◌∙◌, arith}
+use Rattle.std.proofs.lemmas.List.{take_rest}
 use Rattle.std.proofs.lemmas.Result.{err_from_is_err_and}
-use Rattle.job.specs.Format.{read_from}
+use Rattle.plane.specs.Refusals.{tells}
+use Rattle.job.specs.Format.{read_job}
 use Rattle.job.specs.Held.{lists_of}
-use Rattle.job.proofs.Readings.{reads_refused, reads_end, corner_refused, corner_read, corner_long}
+use Rattle.job.proofs.Readings.{reads_refused, reads_end, reads_none, corner_refused, reads_on}
 use Rattle.job.proofs.Splits.{split_of}
+use Rattle.job.proofs.job.Job.read.Goals.{else-loop-at-test, then-loop-at-test+in_ok-ring+in-Corner+in_ok-add-in-Corner+else-at-end-at-gt5}
 use Rattle.job.proofs.job.Job.read.Goals as goal
 
 pub returns-in_err-ring : goal.returns-in_err-ring
 returns-in_err-ring c =
     let p = err_from_is_err_and c.from_residual.result c.from_residual.ensures.1 in
-    let v = reads_refused _ _ _ _ c.in_err-ring.ensures ∙ c.loop-ring.invariant.1 in
+    let left = take_rest c.args.bytes.now c.loop-at.at in
+    let v = reads_refused c.loop-at.at (lists_of c.loop-at.job) _ _ (rw left at c.in_err-ring.ensures) ∙ c.loop-at.invariant.same in
     rw (p.1, p.2) (record { value = v; split = split_of _ _ c.type_inv.bytes v })
 
-pub returns-in_err-add : goal.returns-in_err-add
-returns-in_err-add c =
-    let p = err_from_is_err_and c.from_residual-in_err-add.result c.from_residual-in_err-add.ensures.1 in
-    let v = corner_refused _ _ _ _ (sym (ap Ok c.in-Corner.is) ∙ c.in_ok-ring.ensures) _ c.in_err-add.ensures.value ∙ c.loop-ring.invariant.1 in
+pub returns-in_err-add-in-Corner : goal.returns-in_err-add-in-Corner
+returns-in_err-add-in-Corner c =
+    let p = err_from_is_err_and c.from_residual-in_err-add-in-Corner.result c.from_residual-in_err-add-in-Corner.ensures.1 in
+    let left = take_rest c.args.bytes.now c.loop-at.at in
+    let kind = rw left at c.in_ok-ring.ensures in
+    let v = corner_refused c.loop-at.at (lists_of c.loop-at.job) _ _ (sym (ap Ok c.in-Corner.is) ∙ kind) _ (rw left at c.in_err-add-in-Corner.ensures.value) ∙ c.loop-at.invariant.same in
     rw (p.1, p.2) (record { value = v; split = split_of _ _ c.type_inv.bytes v })
 
--- a corner's record is as long as the step past it
-whole : (c : goal.In_ok-add) → c.loop-ring.at + 5 ≤ length c.args.bytes.now
-whole c =
-    let h = corner_long c.loop-ring.at (lists_of c.loop-ring.job) (drop c.loop-ring.at c.args.bytes.now) c.in-Corner.ring (sym (ap Ok c.in-Corner.is) ∙ c.in_ok-ring.ensures) _ c.in_ok-add.ensures.value in
-    omega (arith, simp length-drop at h)
+pub returns-in-End : goal.returns-in-End
+returns-in-End c =
+    let left = take_rest c.args.bytes.now c.loop-at.at in
+    let v = reads_end c.loop-at.at (lists_of c.loop-at.job) _ (sym (ap Ok c.in-End.is) ∙ rw left at c.in_ok-ring.ensures) ∙ c.loop-at.invariant.same in
+    record { value = v; split = split_of _ _ c.type_inv.bytes v }
 
-pub loop-ring-smaller : goal.loop-ring-smaller
-loop-ring-smaller c = omega (arith, whole c)
+pub loop-at-preserved : goal.loop-at-preserved
+loop-at-preserved c =
+    let left = take_rest c.args.bytes.now c.loop-at.at in
+    let kind = sym (ap Ok c.in-Corner.is) ∙ rw left at c.in_ok-ring.ensures in
+    let on = reads_on c.args.bytes.now c.loop-at.at (lists_of c.loop-at.job) (lists_of c.add.new.self) c.in-Corner.ring kind (rw left at c.in_ok-add-in-Corner.ensures.value) in
+    record { within = on.0; same = on.1 ∙ c.loop-at.invariant.same }
 
-pub loop-ring-preserved : goal.loop-ring-preserved
-loop-ring-preserved c = (
-  whole c,
-  ap (read_from (c.loop-ring.at + 5) (lists_of c.add.new.self)) (sym (drop-drop 5 c.loop-ring.at c.args.bytes.now))
-      ∙ (corner_read _ _ _ _ (sym (ap Ok c.in-Corner.is) ∙ c.in_ok-ring.ensures) _ c.in_ok-add.ensures.value ∙ c.loop-ring.invariant.1),
-)
+ends : (c : goal.Left-loop-at) → Err (tells 13 (length c.args.bytes.now)) ≡ read_job c.args.bytes.now
+ends c = elim c.loop-at-test.branch [
+  | else-loop-at-test w ↦ reads_none c.args.bytes.now c.loop-at.at (lists_of c.loop-at.job) (omega arith) ∙ c.loop-at.invariant.same
+  | then-loop-at-test+in_ok-ring+in-Corner+in_ok-add-in-Corner+else-at-end-at-gt5 w ↦
+      let left = take_rest c.args.bytes.now c.loop-at.at in
+      let kind = sym (ap Ok w.in-Corner.is) ∙ rw left at w.in_ok-ring.ensures in
+      let on = reads_on c.args.bytes.now c.loop-at.at (lists_of c.loop-at.job) (lists_of w.add.new.self) w.in-Corner.ring kind (rw left at w.in_ok-add-in-Corner.ensures.value) in
+      reads_none c.args.bytes.now (c.loop-at.at + 5) (lists_of w.add.new.self) (omega arith) ∙ on.1 ∙ c.loop-at.invariant.same
+]
 
 pub returns : goal.returns
-returns c =
-    let v = reads_end _ _ _ (sym (ap Ok c.in_default.is) ∙ c.in_ok-ring.ensures) ∙ c.loop-ring.invariant.1 in
-    record { value = v; split = split_of _ _ c.type_inv.bytes v }
+returns c = record { value = ends c; split = split_of _ _ c.type_inv.bytes (ends c) }

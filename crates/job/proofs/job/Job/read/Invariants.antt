@@ -3,8 +3,11 @@ use Rattle.job.specs.Format.{read_from, read_job}
 use Rattle.job.specs.Held.{lists_of}
 use Rattle.job.proofs.job.Job.read.Given as goal
 
-abbrev pub invariant-loop-ring : goal.invariant-loop-ring
-invariant-loop-ring l = (l.at ≤ length l.bytes) × (read_from l.at (lists_of l.job) (drop l.at l.bytes) ≡ read_job l.bytes)
+abbrev pub invariant-loop-at : goal.invariant-loop-at
+invariant-loop-at l = record {
+  within : l.at ≤ length l.bytes;
+  same : read_from l.at (lists_of l.job) (drop l.at l.bytes) ≡ read_job l.bytes;
+}
 
-abbrev pub decreases-loop-ring : goal.decreases-loop-ring
-decreases-loop-ring l = length l.bytes - l.at
+abbrev pub decreases-loop-at : goal.decreases-loop-at
+decreases-loop-at l = length l.bytes - l.at

@@ -1,5 +1,4 @@
 pub mod Numbers
-pub mod Adds
 pub mod Readings
 pub mod Splits
 pub mod Prefixes

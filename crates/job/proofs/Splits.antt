@@ -1,10 +1,10 @@
 -- Bytes as good records and a rest whose first record decides. Assumes nothing.
-use Rattle.std.proofs.Common.{◌≡◌, ℕ, zero, suc, ◌+◌, ◌<◌, ◌≤◌, Bool, true, false, ◌⊎◌, List, [], ◌∷◌, ◌++◌, map, length, get_or, is_some, None, Ok, Err, filter, Result, sym, refl, ap, ◌∙◌, subst, ap₂, subst₂, inl, inr, add-zero, zero-add, arith, w8, Fits}
-use Rattle.std.proofs.lemmas.List.{append-nil, append_assoc, map-append, length-append, length_push}
-use Rattle.std.proofs.lemmas.List.Elements.{filter-append}
+use Rattle.std.proofs.Common.{◌≡◌, ℕ, zero, suc, ◌+◌, ◌<◌, ◌≤◌, Bool, true, false, ◌⊎◌, List, [], ◌∷◌, ◌++◌, length, get_or, is_some, None, Ok, Err, Result, sym, refl, ap, ◌∙◌, subst, ap₂, subst₂, inl, inr, add-zero, zero-add, arith, w8, Fits}
+use Rattle.std.proofs.lemmas.List.{length_push}
 use Rattle.std.proofs.ByRecursion.{All-append, All-from_get_or, All-map}
-use Rattle.std.proofs.lemmas.Bool.{cases_lt, cases_eq, lt-ltb, le-ltb, ne_eqb}
+use Rattle.std.proofs.lemmas.Bool.{cases_lt, cases_eq}
 use Rattle.std.specs.List.{AllByRecursion as All}
+use Rattle.std.proofs.lemmas.Grind.{common_steps}
 use Rattle.plane.specs.Refusals.{Told, tells}
 use Rattle.plane.specs.Outlines.{most_corners}
 use Rattle.decimetre.specs.declared.corner.Pair.{Pair}
@@ -13,26 +13,18 @@ use Rattle.plane.specs.declared.ring.Ring.{Ring}
 use Rattle.plane.specs.declared.ring.Ring.TheVariants.{One, Two}
 use Rattle.job.specs.declared.reader.Kind.{Kind}
 use Rattle.job.specs.declared.reader.Kind.TheVariants.{Corner, End}
-use Rattle.job.specs.Format.{kind_byte, InTwoBytes, number_bytes, number_of, Record, bytes_of, written, and_then, kind_of, known, pair_at, added, Lists, none, pairs_in, puts, read_from, read_job}
+use Rattle.job.specs.Format.{kind_byte, InTwoBytes, number_of, Record, bytes_of, written, kind_of, known, pair_at, Lists, none, pairs_in, puts, read_from, read_job}
 use Rattle.job.specs.Laws.{same_ring, of_ring, rings_of, corners, Fine, Front, Split, Written, ReadsBack, ListsReadBack, OnlySo}
 use Rattle.job.specs.Laws.Front.{ended, missing, strange, full, cut, wild}
 use Rattle.job.proofs.Numbers.{number_back, fine_in_two, in_two, bytes_back}
-use Rattle.job.proofs.Adds as adds
-use Rattle.job.proofs.Readings.{reads_refused, reads_end, corner_refused, corner_read}
+use Rattle.job.proofs.Readings.{reads_one}
 
 no_kind : (b : ℕ) → (b ≡ 17 → ⊥) → (b ≡ 18 → ⊥) → (b ≡ 20 → ⊥) → kind_of b ≡ None
-no_kind b p q r = rw (ne_eqb b 17 p, ne_eqb b 18 q, ne_eqb b 20 r) refl
+no_kind b p q r = grind (arith, common_steps)
 
 -- a kind is read back from its byte, and a byte from its kind
 kind_back : (at : ℕ) (k : Kind) → Ok k ≡ known at (kind_of (kind_byte k))
-kind_back at (Corner One) = refl
-kind_back at (Corner Two) = refl
-kind_back at End = refl
-
-no_byte : (b : ℕ) → (b ≡ 17 → ⊥) → (b ≡ 18 → ⊥) → (b ≡ 20 → ⊥) → (k : Kind) → b ≡ kind_byte k → ⊥
-no_byte b p q r (Corner One) e = p e
-no_byte b p q r (Corner Two) e = q e
-no_byte b p q r End e = r e
+kind_back at k = grind (arith, common_steps)
 
 byte_back : (b : ℕ) → ((k : Kind) → b ≡ kind_byte k → ⊥) ⊎ ((k : Kind) × (b ≡ kind_byte k))
 byte_back b = go (cases_eq b 17) (cases_eq b 18) (cases_eq b 20)
@@ -41,51 +33,44 @@ byte_back b = go (cases_eq b 17) (cases_eq b 18) (cases_eq b 20)
     go (inl e) q r = inr (Corner One, e)
     go (inr p) (inl e) r = inr (Corner Two, e)
     go (inr p) (inr q) (inl e) = inr (End, e)
-    go (inr p) (inr q) (inr r) = inl (no_byte b p q r)
+    go (inr p) (inr q) (inr r) = inl (λ k e. grind (arith, common_steps))
 
 -- the record at the front
 module _ (at : ℕ) (r : Record) (more : List ℕ) where
   pair_back : InTwoBytes r.pair.x → InTwoBytes r.pair.y → Ok r.pair ≡ pair_at at (bytes_of r ++ more)
-  pair_back p q = rw (le-ltb (length (bytes_of r ++ more)) 5 (omega arith), number_back r.pair.x p, number_back r.pair.y q) refl
+  pair_back p q = grind (arith, common_steps, number_back)
 
   -- a good one is added to its ring
-  module _ (l : Lists) (room : length (pairs_in r.ring l) < most_corners) where
-    fine_read : Fine r.pair → read_from (at + 5) (puts r.ring (pairs_in r.ring l ++ r.pair ∷ []) l) more ≡ read_from at l (bytes_of r ++ more)
-    fine_read f =
-        let t = fine_in_two r.pair f in
-        let a = adds.more at (pairs_in r.ring l) (bytes_of r ++ more) room r.pair (pair_back t.0 t.1) f in
-        corner_read at l (bytes_of r ++ more) r.ring (kind_back at (Corner r.ring)) _ (ap (λ x. and_then x (λ ps. Ok (puts r.ring ps l))) a)
+  fine_read : (l : Lists) → length (pairs_in r.ring l) < most_corners → Fine r.pair → read_from (at + 5) (puts r.ring (pairs_in r.ring l ++ r.pair ∷ []) l) more ≡ read_from at l (bytes_of r ++ more)
+  fine_read l room f =
+      let t = fine_in_two r.pair f in
+      grind (arith, pair_back t.0 t.1, reads_one at l (bytes_of r ++ more))
 
 -- what the front decides is what is read
 module _ (l : Lists) (at : ℕ) where
-  refuses : (ring : Ring) (more : List ℕ) (t : Told) → Err t ≡ added at (pairs_in ring l) (kind_byte (Corner ring) ∷ more) → read_from at l (kind_byte (Corner ring) ∷ more) ≡ Err t
-  refuses ring more t e = sym (corner_refused at l (kind_byte (Corner ring) ∷ more) ring (kind_back at (Corner ring)) t (ap (λ x. and_then x (λ ps. Ok (puts ring ps l))) e))
-
   pub decided : {left : List ℕ} {answer : Result Lists Told} → Front l at left answer → read_from at l left ≡ answer
-  decided (ended more e a) = ap (read_from at l) e ∙ (sym (reads_end at l (kind_byte End ∷ more) refl) ∙ sym a)
-  decided (missing e a) = ap (read_from at l) e ∙ (sym (reads_refused at l [] (tells 13 at) refl) ∙ sym a)
-  decided (strange b more e n a) = ap (read_from at l) e ∙ (sym (reads_refused at l (b ∷ more) (tells 12 at) (sym (ap (known at) (no_kind b (n (Corner One)) (n (Corner Two)) (n End))))) ∙ sym a)
-  decided (full ring more e h a) = ap (read_from at l) e ∙ (refuses ring more (tells 2 at) (adds.full at (pairs_in ring l) (kind_byte (Corner ring) ∷ more) (omega arith)) ∙ sym a)
-  decided (cut ring more e h s a) = ap (read_from at l) e ∙ (refuses ring more (tells 13 at) (adds.short at (pairs_in ring l) (kind_byte (Corner ring) ∷ more) h (tells 13 at) (rw (lt-ltb (length (kind_byte (Corner ring) ∷ more)) 5 (omega arith)) refl)) ∙ sym a)
-  decided (wild r more e h p q w a) = ap (read_from at l) e ∙ (refuses r.ring (number_bytes r.pair.x ++ number_bytes r.pair.y ++ more) (tells 3 at) (adds.wild at (pairs_in r.ring l) (bytes_of r ++ more) h r.pair (pair_back at r more p q) w) ∙ sym a)
+  decided (ended more e a) = grind (arith, reads_one at l (kind_byte End ∷ more))
+  decided (missing e a) = grind (arith, reads_one at l [])
+  decided (strange b more e n a) = grind (arith, reads_one at l (b ∷ more), no_kind b (n (Corner One)) (n (Corner Two)) (n End))
+  decided (full ring more e h a) = grind (arith, reads_one at l (kind_byte (Corner ring) ∷ more))
+  decided (cut ring more e h s a) = grind (arith, reads_one at l (kind_byte (Corner ring) ∷ more))
+  decided (wild r more e h p q w a) = grind (arith, reads_one at l (bytes_of r ++ more), pair_back at r more p q)
 
 -- lists with the pairs of records after them
 abbrev joins : Lists → List Record → Lists
 joins l rs = record { one = l.one ++ of_ring One rs; two = l.two ++ of_ring Two rs }
 
 joins_none : (l : Lists) → joins l [] ≡ l
-joins_none l = ap₂ (λ x y. record { one = x; two = y }) (append-nil l.one) (append-nil l.two)
+joins_none l = grind (arith, common_steps)
 
 joins_more : (l : Lists) (ring : Ring) (p : Pair) (rs : List Record) → joins (puts ring (pairs_in ring l ++ p ∷ []) l) rs ≡ joins l (record { ring = ring; pair = p } ∷ rs)
-joins_more l One p rs = ap (λ x. record { one = x; two = l.two ++ of_ring Two rs }) (append_assoc l.one (p ∷ []) (of_ring One rs))
-joins_more l Two p rs = ap (λ x. record { one = l.one ++ of_ring One rs; two = x }) (append_assoc l.two (p ∷ []) (of_ring Two rs))
+joins_more l ring p rs = grind (arith, common_steps)
 
 abbrev pub Few : Lists → Type 0
 Few l = (ring : Ring) → length (pairs_in ring l) ≤ most_corners
 
 has_room : (l : Lists) (ring : Ring) (p : Pair) (rs : List Record) → Few (joins l (record { ring = ring; pair = p } ∷ rs)) → length (pairs_in ring l) < most_corners
-has_room l One p rs f = omega (arith, f One, length-append l.one (p ∷ of_ring One rs))
-has_room l Two p rs f = omega (arith, f Two, length-append l.two (p ∷ of_ring Two rs))
+has_room l ring p rs f = let few = f ring in grind (arith, common_steps)
 
 -- good records are read one by one
 goes : (rs : List Record) (at : ℕ) (l : Lists) (rest : List ℕ) → All (λ r. Fine r.pair) rs → Few (joins l rs) → read_from at l (written rs ++ rest) ≡ read_from (at + length (written rs)) (joins l rs) rest
@@ -97,19 +82,16 @@ goes (r ∷ rs) at l rest f few =
     sym (fine_read at r (written rs ++ rest) l (has_room l r.ring r.pair rs few) f.0)
     ∙ (goes rs (at + 5) m rest f.1 (subst Few (sym j) few) ∙ ap₂ (λ a m. read_from a m rest) a j)
 
-few_in : (rs : List Record) → ((ring : Ring) → length (of_ring ring rs) ≤ most_corners) → Few (rings_of rs)
-few_in rs f One = f One
-few_in rs f Two = f Two
-
-few_out : (rs : List Record) → Few (rings_of rs) → (ring : Ring) → length (of_ring ring rs) ≤ most_corners
-few_out rs f One = f One
-few_out rs f Two = f Two
+-- the pairs of a ring are those of its records
+pub ring_of : (ring : Ring) (rs : List Record) → pairs_in ring (rings_of rs) ≡ of_ring ring rs
+ring_of ring rs = grind arith
 
 pub split_decides : (bytes : List ℕ) (answer : Result Lists Told) → Split bytes answer → read_job bytes ≡ answer
 split_decides bytes answer s =
-    ap read_job s.whole
-    ∙ (goes s.records 0 none s.rest s.good.fine (few_in s.records s.good.few)
-    ∙ (ap (λ a. read_from a (rings_of s.records) s.rest) (zero-add (length (written s.records))) ∙ decided (rings_of s.records) (length (written s.records)) s.front))
+    let read = goes s.records 0 none s.rest s.good.fine (λ ring. omega (arith, s.good.few ring, ap length (ring_of ring s.records))) in
+    let front = decided (rings_of s.records) (length (written s.records)) s.front in
+    let whole = ap read_job s.whole in
+    grind (arith, common_steps)
 
 -- a split of the bytes left, from the lists so far
 record Parts (at : ℕ) (l : Lists) (left : List ℕ) : Type 0 where
@@ -149,10 +131,7 @@ abbrev Byte : ℕ → Type 0
 Byte b = b < 256
 
 pub few_after : (l : Lists) (ring : Ring) (qs : List Pair) → Few l → length (pairs_in ring l) < most_corners → length qs ≡ length (pairs_in ring l) + 1 → Few (puts ring qs l)
-few_after l One qs few h e One = omega arith
-few_after l One qs few h e Two = few Two
-few_after l Two qs few h e One = few One
-few_after l Two qs few h e Two = omega arith
+few_after l ring qs few h e other = let f = few other in grind (arith, common_steps)
 
 -- what follows is split, whatever the lists
 abbrev Onward : ℕ → List ℕ → Type 0
@@ -206,8 +185,7 @@ splits zero at l (b ∷ left) h bs few = absurd (omega arith)
 splits (suc n) at l (b ∷ left) h bs few = at_byte at l few b left bs.1 (λ m more s bs f. splits n (at + 5) m more (omega arith) bs f)
 
 pub few_none : Few none
-few_none One = omega arith
-few_none Two = omega arith
+few_none ring = grind arith
 
 pub every_split : (bytes : List ℕ) → All (λ b. b < 256) bytes → Split bytes (read_job bytes)
 every_split bytes bs =
@@ -216,7 +194,7 @@ every_split bytes bs =
       records = p.records;
       rest = p.rest;
       whole = p.whole;
-      good = record { fine = p.fine; few = few_out p.records p.few };
+      good = record { fine = p.fine; few = λ ring. omega (arith, p.few ring, ap length (ring_of ring p.records)) };
       front = subst (λ a. Front (rings_of p.records) a p.rest (read_job bytes)) (zero-add (length (written p.records))) p.front;
     }
 
@@ -232,48 +210,26 @@ only_so bytes l bs e = let s = every_split bytes bs in go s s.front
   where
     go : (s : Split bytes (read_job bytes)) → Front (rings_of s.records) (length (written s.records)) s.rest (read_job bytes) → Written bytes l
     go s (ended more w a) = record { records = s.records; more = more; whole = s.whole ∙ ap (λ x. written s.records ++ x) w; good = s.good; pairs = cc }
-    go s (missing w a) = absurd (let z : ◌≡◌ {A = ℕ} 0 1 = cc in omega arith)
-    go s (strange b more w n a) = absurd (let z : ◌≡◌ {A = ℕ} 0 1 = cc in omega arith)
-    go s (full ring more w h a) = absurd (let z : ◌≡◌ {A = ℕ} 0 1 = cc in omega arith)
-    go s (cut ring more w h k a) = absurd (let z : ◌≡◌ {A = ℕ} 0 1 = cc in omega arith)
-    go s (wild r more w h p q t a) = absurd (let z : ◌≡◌ {A = ℕ} 0 1 = cc in omega arith)
+    go s (missing w a) = grind arith
+    go s (strange b more w n a) = grind arith
+    go s (full ring more w h a) = grind arith
+    go s (cut ring more w h k a) = grind arith
+    go s (wild r more w h p q t a) = grind arith
 
 -- the corners of one ring are its own, and none of the other's
 own : (ring : Ring) (ps : List Pair) → of_ring ring (corners ring ps) ≡ ps
-own One [] = refl
-own Two [] = refl
-own One (p ∷ ps) = ap (λ x. p ∷ x) (own One ps)
-own Two (p ∷ ps) = ap (λ x. p ∷ x) (own Two ps)
+own ring [] = refl
+own ring (p ∷ ps) = let e = own ring ps in grind (arith, common_steps)
 
-not_one : (ps : List Pair) → of_ring One (corners Two ps) ≡ []
-not_one [] = refl
-not_one (p ∷ ps) = not_one ps
+not_other : (ring other : Ring) (ps : List Pair) → same_ring ring other ≡ false → of_ring ring (corners other ps) ≡ []
+not_other ring other [] e = refl
+not_other ring other (p ∷ ps) e = let f = not_other ring other ps e in grind (arith, common_steps)
 
-not_two : (ps : List Pair) → of_ring Two (corners One ps) ≡ []
-not_two [] = refl
-not_two (p ∷ ps) = not_two ps
-
-of_ring-append : (ring : Ring) (rs ss : List Record) → of_ring ring (rs ++ ss) ≡ of_ring ring rs ++ of_ring ring ss
-of_ring-append ring rs ss = ap (map (λ r. r.pair)) (filter-append (λ r. same_ring ring r.ring) rs ss) ∙ map-append (λ r. r.pair) (filter (λ r. same_ring ring r.ring) rs) (filter (λ r. same_ring ring r.ring) ss)
-
-module _ (l : Lists) where
-  both : List Record
-  both = corners One l.one ++ corners Two l.two
-
-  all_ones : of_ring One both ≡ l.one
-  unfolding both
-  all_ones = of_ring-append One (corners One l.one) (corners Two l.two) ∙ (ap₂ ◌++◌ (own One l.one) (not_one l.two) ∙ append-nil l.one)
-
-  all_twos : of_ring Two both ≡ l.two
-  unfolding both
-  all_twos = of_ring-append Two (corners One l.one) (corners Two l.two) ∙ ap₂ ◌++◌ (not_two l.one) (own Two l.two)
-
-  both_few : Few l → (ring : Ring) → length (of_ring ring both) ≤ most_corners
-  both_few few One = rw all_ones (few One)
-  both_few few Two = rw all_twos (few Two)
+rings_back : (l : Lists) → rings_of (corners One l.one ++ corners Two l.two) ≡ l
+rings_back l = grind (arith, common_steps, own One l.one, own Two l.two, not_other One Two l.two refl, not_other Two One l.one refl)
 
 pub lists_read_back : ListsReadBack
-unfolding both
 lists_read_back l more fine few =
-    reads_back (both l) more (record { fine = All-append (λ r. Fine r.pair) (corners One l.one) (corners Two l.two) (All-map (λ r. Fine r.pair) (λ p. record { ring = One; pair = p }) l.one (fine One)) (All-map (λ r. Fine r.pair) (λ p. record { ring = Two; pair = p }) l.two (fine Two)); few = both_few l few })
-    ∙ ap₂ (λ x y. Ok (record { one = x; two = y })) (all_ones l) (all_twos l)
+    let rs = corners One l.one ++ corners Two l.two in
+    let both = All-append (λ r. Fine r.pair) (corners One l.one) (corners Two l.two) (All-map (λ r. Fine r.pair) (λ p. record { ring = One; pair = p }) l.one (fine One)) (All-map (λ r. Fine r.pair) (λ p. record { ring = Two; pair = p }) l.two (fine Two)) in
+    reads_back rs more (record { fine = both; few = λ ring. omega (arith, few ring, ap length (ring_of ring rs), ap (λ m. length (pairs_in ring m)) (rings_back l)) }) ∙ ap Ok (rings_back l)

@@ -1,34 +1,27 @@
 -- What is left gives the answer, from record to record.
-use Rattle.std.proofs.Common.{◌≡◌, ◌+◌, length, Ok, Err, sym, ap, ◌∙◌, arith}
+use Rattle.std.proofs.Common.{◌≡◌, ◌+◌, length, drop, Ok, Err, sym, ap, ◌∙◌, arith}
 use Rattle.std.proofs.lemmas.List.{take_rest}
-use Rattle.std.proofs.lemmas.Result.{err_from_is_err_and}
 use Rattle.plane.specs.Refusals.{tells}
-use Rattle.job.specs.Format.{read_job}
+use Rattle.job.specs.Format.{read_job, seen}
 use Rattle.job.specs.Held.{lists_of}
-use Rattle.job.proofs.Readings.{reads_refused, reads_end, reads_none, corner_refused, reads_on}
+use Rattle.job.proofs.Readings.{reads_one, reads_none, reads_on}
 use Rattle.job.proofs.Splits.{split_of}
 use Rattle.job.proofs.job.Job.read.Goals.{else-loop-at-test, then-loop-at-test+in_ok-ring+in-Corner+in_ok-add-in-Corner+else-at-end-at-gt5}
 use Rattle.job.proofs.job.Job.read.Goals as goal
 
 pub returns-in_err-ring : goal.returns-in_err-ring
 returns-in_err-ring c =
-    let p = err_from_is_err_and c.from_residual.result c.from_residual.ensures.1 in
-    let left = take_rest c.args.bytes.now c.loop-at.at in
-    let v = reads_refused c.loop-at.at (lists_of c.loop-at.job) _ _ (rw left at c.in_err-ring.ensures) ∙ c.loop-at.invariant.same in
-    rw (p.1, p.2) (record { value = v; split = split_of _ _ c.type_inv.bytes v })
+    let v : seen lists_of c.from_residual.result ≡ read_job c.args.bytes.now = grind (arith, take_rest, reads_one c.loop-at.at (lists_of c.loop-at.job) (drop c.loop-at.at c.args.bytes.now)) in
+    record { value = v; split = split_of _ _ c.type_inv.bytes v }
 
 pub returns-in_err-add-in-Corner : goal.returns-in_err-add-in-Corner
 returns-in_err-add-in-Corner c =
-    let p = err_from_is_err_and c.from_residual-in_err-add-in-Corner.result c.from_residual-in_err-add-in-Corner.ensures.1 in
-    let left = take_rest c.args.bytes.now c.loop-at.at in
-    let kind = rw left at c.in_ok-ring.ensures in
-    let v = corner_refused c.loop-at.at (lists_of c.loop-at.job) _ _ (sym (ap Ok c.in-Corner.is) ∙ kind) _ (rw left at c.in_err-add-in-Corner.ensures.value) ∙ c.loop-at.invariant.same in
-    rw (p.1, p.2) (record { value = v; split = split_of _ _ c.type_inv.bytes v })
+    let v : seen lists_of c.from_residual-in_err-add-in-Corner.result ≡ read_job c.args.bytes.now = grind (arith, take_rest, reads_one c.loop-at.at (lists_of c.loop-at.job) (drop c.loop-at.at c.args.bytes.now)) in
+    record { value = v; split = split_of _ _ c.type_inv.bytes v }
 
 pub returns-in-End : goal.returns-in-End
 returns-in-End c =
-    let left = take_rest c.args.bytes.now c.loop-at.at in
-    let v = reads_end c.loop-at.at (lists_of c.loop-at.job) _ (sym (ap Ok c.in-End.is) ∙ rw left at c.in_ok-ring.ensures) ∙ c.loop-at.invariant.same in
+    let v : Ok (lists_of c.loop-at.job) ≡ read_job c.args.bytes.now = grind (arith, take_rest, reads_one c.loop-at.at (lists_of c.loop-at.job) (drop c.loop-at.at c.args.bytes.now)) in
     record { value = v; split = split_of _ _ c.type_inv.bytes v }
 
 pub loop-at-preserved : goal.loop-at-preserved

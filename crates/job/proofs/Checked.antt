@@ -1,27 +1,20 @@
 -- The pairs of a job that was read pass a check wherever there are places for them. Assumes nothing.
-use Rattle.std.proofs.Common.{◌≡◌, ℕ, ◌+◌, ◌≤◌, Bool, true, false, cond, List, [], ◌∷◌, map, length, is_some, is_ok, Some, None, Ok, Err, filter, Option, Result, sym, refl, subst, arith}
-use Rattle.std.specs.List.{AllByRecursion as All}
-use Rattle.std.proofs.lemmas.Bool.{le-ltb}
-use Rattle.plane.specs.Outlines.{most_corners, wild_from, checked}
-use Rattle.plane.specs.Refusals.{Told, refused}
-use Rattle.plane.specs.declared.refusal.Refusal.{Refusal}
+use Rattle.std.proofs.Common.{◌≡◌, ℕ, ◌≤◌, is_none, List, [], ◌∷◌, length, None, Ok, sym, refl, ap, ◌∙◌, subst, arith}
+use Rattle.std.specs.List.{position_or_len, AllByRecursion as All}
+use Rattle.std.proofs.lemmas.Grind.{common_steps}
+use Rattle.plane.specs.Outlines.{most_corners, checked}
 use Rattle.decimetre.specs.declared.corner.Pair.{Pair}
-use Rattle.decimetre.specs.declared.corner.Corner.{Corner}
 use Rattle.decimetre.specs.Exact.{admitted, exact}
 use Rattle.plane.specs.declared.ring.Ring.{Ring}
-use Rattle.plane.specs.declared.ring.Ring.TheVariants.{One, Two}
 use Rattle.job.specs.Format.{Record, Lists, pairs_in}
 use Rattle.job.specs.Outlined.{corners_in, placed}
-use Rattle.job.specs.Laws.{Fine, Split, Front, ended, missing, strange, full, cut, wild, same_ring, of_ring, rings_of}
+use Rattle.job.specs.Laws.{Fine, Split, of_ring}
+use Rattle.job.proofs.Splits.{ring_of, written_of}
 
--- nothing is wild among pairs that are fine
-none_wild : (k : ℕ) (ps : List Pair) → All Fine ps → wild_from exact k ps ≡ None
-none_wild k [] h = refl
-none_wild k (p ∷ ps) h = go (admitted p) h.0 (none_wild (k + 1) ps h.1)
-  where
-    go : (o : Option Corner) → is_some o ≡ true → wild_from exact (k + 1) ps ≡ None → ◌≡◌ {A = Option ℕ} (elim o [ Some c ↦ wild_from exact (k + 1) ps | None ↦ Some k ]) None
-    go (Some c) e more = more
-    go None e more = let z : ◌≡◌ {A = ℕ} 0 1 = cc in absurd (omega arith)
+-- none is wild among pairs that are fine
+none_wild : (ps : List Pair) → All Fine ps → position_or_len (λ p. is_none (admitted p)) ps ≡ length ps
+none_wild [] h = refl
+none_wild (p ∷ ps) h = let fine = h.0 in let more = none_wild ps h.1 in grind (arith, common_steps)
 
 -- a ring that passes a check: its pairs are fine, and not too many
 pub record Passes (ps : List Pair) : Type 0 where
@@ -29,51 +22,20 @@ pub record Passes (ps : List Pair) : Type 0 where
   pub few : length ps ≤ most_corners
 
 pub not_refused : (ps : List Pair) (places : ℕ) → Passes ps → length ps ≤ places → checked exact ps places ≡ None
-not_refused ps places h room = rw (le-ltb most_corners (length ps) h.few, none_wild 0 ps h.fine, le-ltb places (length ps) room) refl
+not_refused ps places h room = let tame = none_wild ps h.fine in grind (arith, common_steps)
 
 -- the pairs of one ring among fine records are fine
 of_ring-fine : (ring : Ring) (rs : List Record) → All (λ r. Fine r.pair) rs → All Fine (of_ring ring rs)
 of_ring-fine ring [] h = tt
-of_ring-fine ring (r ∷ rs) h = go (same_ring ring r.ring) h.0 (of_ring-fine ring rs h.1)
-  where
-    go : (b : Bool) → Fine r.pair → All Fine (of_ring ring rs) → All Fine (map (λ q. q.pair) (cond b (r ∷ filter (λ q. same_ring ring q.ring) rs) (filter (λ q. same_ring ring q.ring) rs)))
-    go true p more = (p, more)
-    go false p more = more
-
-of_ring_lem : (ring : Ring) (rs : List Record) → pairs_in ring (rings_of rs) ≡ of_ring ring rs
-of_ring_lem One rs = refl
-of_ring_lem Two rs = refl
+of_ring-fine ring (r ∷ rs) h = let fine = h.0 in let more = of_ring-fine ring rs h.1 in grind (arith, common_steps)
 
 -- both rings of a job that was read pass
 pub rings_pass : (bytes : List ℕ) (l : Lists) → Split bytes (Ok l) → (ring : Ring) → Passes (pairs_in ring l)
-rings_pass bytes l split ring = go split.front
-  where
-    passes : Passes (pairs_in ring (rings_of split.records))
-    passes = subst Passes (sym (of_ring_lem ring split.records)) (record { fine = of_ring-fine ring split.records split.good.fine; few = split.good.few ring })
-
-    never : (t : Told) → Ok l ≡ Err t → Passes (pairs_in ring l)
-    never t e = let z : ◌≡◌ {A = ℕ} 0 1 = cc in absurd (omega arith)
-
-    go : {at : ℕ} {left : List ℕ} → Front (rings_of split.records) at left (Ok l) → Passes (pairs_in ring l)
-    go (ended more e same) = let is : rings_of split.records ≡ l = cc in subst (λ k. Passes (pairs_in ring k)) is passes
-    go (missing e w) = never _ w
-    go (strange b more e no_kind w) = never _ w
-    go (full r more e most w) = never _ w
-    go (cut r more e room short w) = never _ w
-    go (wild r more e room x y far w) = never _ w
-
--- an answer that is no refusal
-pub done : {X : Type 0} (r : Result X Refusal) → refused r ≡ None → is_ok r ≡ true
-done (Ok x) e = refl
-done (Err t) e = let z : ◌≡◌ {A = ℕ} 0 1 = cc in absurd (omega arith)
-
-pub never_refused : {X : Type 0} (r : Result X Refusal) (e : Refusal) → refused r ≡ None → r ≡ Err e → ⊥
-never_refused (Ok x) e none is = let z : ◌≡◌ {A = ℕ} 0 1 = cc in omega arith
-never_refused (Err t) e none is = let z : ◌≡◌ {A = ℕ} 0 1 = cc in omega arith
+rings_pass bytes l split ring =
+    let w = written_of bytes l split in
+    let is : of_ring ring w.records ≡ pairs_in ring l = sym (ap (pairs_in ring) w.pairs ∙ ring_of ring w.records) in
+    subst Passes is (record { fine = of_ring-fine ring w.records w.good.fine; few = w.good.few ring })
 
 -- what is told where the places suffice
 pub all_placed : (places : ℕ) (l : Lists) → corners_in l ≤ places → placed places (Ok l) ≡ None
-all_placed places l h = rw (le-ltb places (corners_in l) h) refl
-
-pub not_both : {X : Type 0} (b : Bool) → b ≡ true → b ≡ false → X
-not_both b p q = let z : ◌≡◌ {A = ℕ} 0 1 = cc in absurd (omega arith)
+all_placed places l h = grind (arith, common_steps)

@@ -205,16 +205,20 @@ split_of bytes answer fits e = subst (Split bytes) (sym e) (every_split bytes (A
 pub reads_back : ReadsBack
 reads_back rs more g = split_decides (written rs ++ kind_byte End ∷ more) (Ok (rings_of rs)) (record { records = rs; rest = kind_byte End ∷ more; whole = refl; good = g; front = ended more refl refl })
 
-pub only_so : OnlySo
-only_so bytes l bs e = let s = every_split bytes bs in go s s.front
+-- only good records and the end record are read without a refusal
+pub written_of : (bytes : List ℕ) (l : Lists) → Split bytes (Ok l) → Written bytes l
+written_of bytes l s = go s.front
   where
-    go : (s : Split bytes (read_job bytes)) → Front (rings_of s.records) (length (written s.records)) s.rest (read_job bytes) → Written bytes l
-    go s (ended more w a) = record { records = s.records; more = more; whole = s.whole ∙ ap (λ x. written s.records ++ x) w; good = s.good; pairs = cc }
-    go s (missing w a) = grind arith
-    go s (strange b more w n a) = grind arith
-    go s (full ring more w h a) = grind arith
-    go s (cut ring more w h k a) = grind arith
-    go s (wild r more w h p q t a) = grind arith
+    go : Front (rings_of s.records) (length (written s.records)) s.rest (Ok l) → Written bytes l
+    go (ended more w a) = record { records = s.records; more = more; whole = s.whole ∙ ap (λ x. written s.records ++ x) w; good = s.good; pairs = cc }
+    go (missing w a) = grind arith
+    go (strange b more w n a) = grind arith
+    go (full ring more w h a) = grind arith
+    go (cut ring more w h k a) = grind arith
+    go (wild r more w h p q t a) = grind arith
+
+pub only_so : OnlySo
+only_so bytes l bs e = written_of bytes l (subst (Split bytes) e (every_split bytes bs))
 
 -- the corners of one ring are its own, and none of the other's
 own : (ring : Ring) (ps : List Pair) → of_ring ring (corners ring ps) ≡ ps

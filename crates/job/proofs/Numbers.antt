@@ -1,7 +1,7 @@
 -- Numbers of two bytes. Assumes nothing.
 use Rattle.std.proofs.Common.{◌≡◌, ℕ, ◌/◌, ◌%◌, ◌<◌, ◌≤◌, [], ◌∷◌, ℤ, pos, negsuc, nat_abs, arith}
 use Rattle.std.proofs.lemmas.Grind.{common_steps}
-use Rattle.decimetre.specs.declared.corner.Pair.{Pair}
+use Rattle.decimetre.specs.Exact.{Pair}
 use Rattle.job.specs.Format.{bits_of, InTwoBytes, number_bytes, number_of}
 use Rattle.job.specs.Laws.{Fine}
 

@@ -5,7 +5,7 @@ use Rattle.std.proofs.lemmas.Bool.{cases_lt}
 use Rattle.std.proofs.lemmas.Grind.{common_steps}
 use Rattle.plane.specs.Refusals.{Told}
 use Rattle.plane.specs.Outlines.{most_corners}
-use Rattle.decimetre.specs.declared.corner.Pair.{Pair}
+use Rattle.decimetre.specs.Exact.{Pair}
 use Rattle.plane.specs.declared.ring.Ring.{Ring}
 use Rattle.plane.specs.declared.ring.Ring.TheVariants.{One, Two}
 use Rattle.job.specs.declared.reader.Kind.TheVariants.{Corner}

@@ -19,7 +19,7 @@ pub struct Pairs {
 
 impl Model for Pairs {
     ghost use Rattle.std.specs.Prelude.{List};
-    ghost use Rattle.decimetre.specs.declared.corner.Pair.{Pair};
+    ghost use Rattle.decimetre.specs.Exact.{Pair};
 
     ghost Value = { List Pair };
 

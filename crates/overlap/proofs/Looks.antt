@@ -3,7 +3,7 @@ use Rattle.std.proofs.Common.{◌≡◌, ℕ, ◌+◌, ◌≤◌, Bool, true, fa
 use Rattle.plane.specs.declared.refusal.Refusal.{Refusal}
 use Rattle.plane.specs.Refusals.{Told, told, refused}
 use Rattle.plane.specs.Outlines.{Corners, most_corners}
-use Rattle.decimetre.specs.declared.corner.Pair.{Pair}
+use Rattle.decimetre.specs.Exact.{Pair}
 use Rattle.decimetre.specs.declared.corner.Corner.{Corner}
 use Rattle.decimetre.specs.Exact.{exact, admitted, near, corner_of}
 use Rattle.plane.specs.declared.ring.Ring.TheVariants.{One, Two}

@@ -9,7 +9,7 @@ pub enum Side {
 }
 
 /// How two edges meet. Marks come in pairs: a mark on the first edge, then its partner on the second.
-#[derive(Clone, Copy, PartialEq, Debug)]
+#[derive(Clone, Copy, PartialEq, Eq, Debug)]
 pub enum Meet<M> {
     Apart,
     Crossing(M, M),

@@ -5,7 +5,7 @@ ghost use Rattle.plane.specs.Rings.{edges, edges_left};
 use std::slice::Iter;
 
 /// An edge runs from a corner to a corner.
-#[derive(Clone, Copy, PartialEq, Debug)]
+#[derive(Clone, Copy, PartialEq, Eq, Debug)]
 pub struct Edge<C> {
     pub from: C,
     pub to: C,

@@ -5,7 +5,7 @@ ghost use Rattle.plane.specs.Marks.{end_of, overlap_of};
 use crate::answer::{End, Meet};
 
 /// A position on an edge: at one of its ends, or inside it, where an arithmetic has its own way to say how far along.
-#[derive(Clone, Copy, PartialEq, Debug)]
+#[derive(Clone, Copy, PartialEq, Eq, Debug)]
 pub enum Mark<P> {
     Start,
     Inside(P),

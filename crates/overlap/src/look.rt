@@ -5,16 +5,16 @@ ghost use Rattle.overlap.specs.Look.{found_between, look_at, cornered};
 
 use chart::count::count;
 use decimetre::corner::{Corner, Decimetre};
-use decimetre::outline::DecimetreOutline;
 use job::outlines::read_outlines;
 use plane::outline::Outline;
 use plane::refusal::Refusal;
+use std::fmt;
 
 // Places for the corners of two outlines.
 const PLACES: usize = 2048;
 
 /// How many corners the two outlines have, and how many pairs of their edges cross.
-#[derive(Clone, Copy)]
+#[derive(Clone, Copy, PartialEq, Eq, Debug)]
 pub struct Found {
     pub one: usize,
     pub two: usize,
@@ -22,8 +22,8 @@ pub struct Found {
 }
 
 // Counts, of two outlines.
-fn found_between(one: &DecimetreOutline, two: &DecimetreOutline) -> Found
-    ensures { result ≡ found_between one.now.corners.now two.now.corners.now }
+fn found_between(one: &Outline<Decimetre>, two: &Outline<Decimetre>) -> Found
+    ensures { result ≡ found_between one.now two.now }
 {
     Found {
         one: one.corners().len(),
@@ -37,11 +37,9 @@ pub fn look(bytes: &[u8]) -> Result<Found, Refusal>
     ensures { answered result ≡ look_at bytes.now }
 {
     let mut places = [Corner { x: 0, y: 0 }; PLACES];
-    let mut store = &mut places[0..PLACES];
-    let mut one = DecimetreOutline::empty();
-    let mut two = DecimetreOutline::empty();
-    read_outlines(bytes, &mut store, &mut one, &mut two)?;
-    Ok(found_between(&one, &two))
+    let mut store = &mut places[..];
+    let outlines = read_outlines(bytes, &mut store)?;
+    Ok(found_between(&outlines.one, &outlines.two))
 }
 
 impl Found {
@@ -53,5 +51,12 @@ impl Found {
             return Err(Refusal::NoCorners);
         }
         Ok(self)
+    }
+}
+
+impl fmt::Display for Found {
+    fn fmt<W: fmt::Write>(&self, f: &mut fmt::Formatter<W>) -> fmt::Result {
+        writeln!(f, "corners {} {}", self.one, self.two)?;
+        write!(f, "crossings {}", self.crossings)
     }
 }

@@ -17,13 +17,9 @@ const LONGEST_JOB: u64 = 10_241;
 fn run(rt: &HostRuntime) -> Result<(), Failure> {
     let mut bytes = Vec::new(rt.alloc());
     rt.stdin().take(LONGEST_JOB).read_to_end(&mut bytes)?;
-    let found = look(bytes.as_slice())?;
-    match found.with_corners() {
-        Ok(found) => {
-            println!(rt; "corners {} {}", found.one, found.two)?;
-            println!(rt; "crossings {}", found.crossings)?;
-        }
-        Err(refusal) => println!(rt; "refused {} {}", refusal.number(), refusal.place())?,
+    match look(bytes.as_slice())?.with_corners() {
+        Ok(found) => println!(rt; "{found}")?,
+        Err(refusal) => println!(rt; "{refusal}")?,
     }
     Ok(())
 }
@@ -32,7 +28,7 @@ fn main(rt: HostRuntime) -> Result<ExitCode, io::Error> {
     match run(&rt) {
         Ok(()) => Ok(ExitCode::SUCCESS),
         Err(Failure::Refused(refusal)) => {
-            println!(rt; "refused {} {}", refusal.number(), refusal.place())?;
+            println!(rt; "{refusal}")?;
             Ok(ExitCode::FAILURE)
         }
         Err(Failure::Io(error)) => Err(error),

@@ -1,7 +1,7 @@
 -- Which number a signed value of the code is, and how large. Assumes nothing.
 use Rattle.std.specs.Prelude.{◌≡◌, ℕ, zero, suc, ◌+◌, ◌*◌, ◌^◌, ◌<◌, ◌≤◌, true, false, ◌⊎◌, ℤ, pos, negsuc, ◌+ℤ◌, ◌-ℤ◌, ◌*ℤ◌, neg_ℤ, FitsSigned, ◌==◌, ◌≢◌, nat_eq, unsigned_abs, refl}
 use Rattle.std.proofs.Common.{sym, ap, ap₂, subst, ◌∙◌, inl, inr, arith, mul-le-mul, le_trans, lit≤, to_z, of_z}
-use Rattle.std.specs.Int.{w32, w64}
+use Rattle.std.specs.Int.{w16, w64}
 use Rattle.std.proofs.lemmas.Int.{ints, to_z-of_z, to_z_pos}
 use Rattle.decimetre.specs.declared.corner.Corner.{Corner}
 use Rattle.decimetre.specs.declared.math.Vector2.{Vector2}
@@ -49,12 +49,14 @@ value r h e k = record { is = back_64 r (le_trans h k) ∙ e; bound = rw e at h 
 pub whole : (n : ℕ) → n < 2 ^ 32 → Reads (2 ^ 32) (to_z w64 n) (pos n)
 whole n h = record { is = to_z_pos w64 n (omega arith); bound = omega arith }
 
--- a coordinate of a near corner, as it is passed on, and widened
-pub narrow : (z : ℤ) → unsigned_abs z ≤ 16384 → to_z w32 (of_z w32 z) ≡ z
-narrow z h = to_z-of_z w32 z (omega (arith, ints))
+-- a number of 16 bits, as it is passed on, and widened
+pub narrow : (z : ℤ) → FitsSigned w16 z → to_z w16 (of_z w16 z) ≡ z
+narrow z h = to_z-of_z w16 z h
 
-pub coordinate : (z : ℤ) → unsigned_abs z ≤ 16384 → Reads 16384 (b64 (to_z w32 (of_z w32 z))) z
-coordinate z h = record { is = ap b64 (narrow z h) ∙ back_64 z (le_trans h (lit≤ tt)); bound = h }
+pub coordinate : (z : ℤ) → FitsSigned w16 z → Reads 32768 (b64 (to_z w16 (of_z w16 z))) z
+coordinate z h =
+    let small : unsigned_abs z ≤ 32768 = omega (arith, ints) in
+    record { is = ap b64 (narrow z h) ∙ back_64 z (le_trans small (lit≤ tt)); bound = small }
 
 -- a coordinate of a vector
 pub vector_x : (v : Vector2) → Reads 32768 (b64 v.x) v.x

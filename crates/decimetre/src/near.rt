@@ -6,11 +6,11 @@ use crate::admit::is_near;
 use crate::corner::Corner;
 use std::marker::Model;
 
-/// A corner that is near to the origin: clauses see it as the corner.
+/// A corner that is near to the origin, so that 16 bits hold each coordinate. Clauses see it as the corner.
 #[derive(Clone, Copy)]
 pub(crate) struct NearCorner {
-    pub x: i32,
-    pub y: i32,
+    pub x: i16,
+    pub y: i16,
 }
 
 impl Model for NearCorner {
@@ -33,8 +33,8 @@ impl Corner {
     {
         if is_near(self) {
             Some(NearCorner {
-                x: self.x,
-                y: self.y,
+                x: self.x as i16,
+                y: self.y as i16,
             })
         } else {
             None

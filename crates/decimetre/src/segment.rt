@@ -1,8 +1,15 @@
 // The points that marks and corners stand for.
-ghost use Rattle.std.specs.Prelude.{◌≡◌};
+ghost use Rattle.std.specs.Prelude.{◌≡◌, pos, ◌+ℤ◌, ◌-ℤ◌, ◌*ℤ◌};
 ghost use Rattle.decimetre.specs.Exact.{point_at, point_of};
 
 use crate::corner::{Corner, Fraction, Mark, Point};
+
+// A coordinate between p and q, over the part's lower number.
+fn weighed(p: i16, q: i16, part: Fraction) -> i64
+    ensures { result ≡ p *ℤ (pos part.lower -ℤ pos part.upper) +ℤ q *ℤ pos part.upper }
+{
+    p as i64 * (part.lower as i64 - part.upper as i64) + q as i64 * part.upper as i64
+}
 
 /// The point of the mark m on the edge from a to b, the origin where one of them is not near.
 pub fn to_point(a: Corner, b: Corner, m: Mark) -> Point
@@ -16,11 +23,9 @@ pub fn to_point(a: Corner, b: Corner, m: Mark) -> Point
         };
     };
     let part = Fraction::from(m);
-    let before = part.lower as i64 - part.upper as i64;
-    let behind = part.upper as i64;
     Point {
-        x: a.x as i64 * before + b.x as i64 * behind,
-        y: a.y as i64 * before + b.y as i64 * behind,
+        x: weighed(a.x, b.x, part),
+        y: weighed(a.y, b.y, part),
         lower: part.lower,
     }
 }

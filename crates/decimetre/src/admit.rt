@@ -24,5 +24,5 @@ pub fn admitted(pair: Pair) -> Option<Corner>
         x: pair.x,
         y: pair.y,
     };
-    if is_near(corner) { Some(corner) } else { None }
+    is_near(corner).then_some(corner)
 }

@@ -10,6 +10,7 @@ use crate::near::NearCorner;
 use crate::triangle::{area2_of, side_of};
 use plane::answer::{Meet, Side};
 use plane::mark::overlap;
+use std::cmp::Ordering;
 
 // The denominator of the places on both edges: 0 where the edges are parallel.
 fn denom_of(a: NearCorner, b: NearCorner, c: NearCorner, d: NearCorner) -> Measure
@@ -36,19 +37,14 @@ fn num_of(p: NearCorner, q: NearCorner, r: NearCorner) -> Measure
 fn portion_of(num: Measure, denom: Measure) -> Option<Mark>
     ensures { result ≡ portion num denom }
 {
-    if num.value < 0 || denom.value < num.value {
-        None
-    } else if num.value > 0 {
-        if num.value < denom.value {
-            Some(Mark::Inside(Fraction {
-                upper: num.value as u32,
-                lower: denom.value as u32,
-            }))
-        } else {
-            Some(Mark::End)
-        }
-    } else {
-        Some(Mark::Start)
+    match (num.value.cmp(&0), num.value.cmp(&denom.value)) {
+        (Ordering::Less, _) | (_, Ordering::Greater) => None,
+        (Ordering::Equal, _) => Some(Mark::Start),
+        (Ordering::Greater, Ordering::Less) => Some(Mark::Inside(Fraction {
+            upper: num.value as u32,
+            lower: denom.value as u32,
+        })),
+        (Ordering::Greater, Ordering::Equal) => Some(Mark::End),
     }
 }
 

@@ -6,6 +6,7 @@ use crate::corner::Corner;
 use crate::math::Measure;
 use crate::near::NearCorner;
 use plane::answer::Side;
+use std::cmp::Ordering;
 
 /// The doubled area of the triangle from a by b to c, above 0 where it turns left.
 pub(crate) fn area2_of(a: NearCorner, b: NearCorner, c: NearCorner) -> Measure
@@ -18,12 +19,10 @@ pub(crate) fn area2_of(a: NearCorner, b: NearCorner, c: NearCorner) -> Measure
 pub(crate) fn side_of(area: Measure) -> Side
     ensures { result ≡ side_of area }
 {
-    if area.value > 0 {
-        Side::Left
-    } else if area.value < 0 {
-        Side::Right
-    } else {
-        Side::Level
+    match area.value.cmp(&0) {
+        Ordering::Greater => Side::Left,
+        Ordering::Less => Side::Right,
+        Ordering::Equal => Side::Level,
     }
 }
 

@@ -6,12 +6,12 @@ use Rattle.plane.specs.declared.ring.Ring.{Ring}
 use Rattle.plane.specs.declared.ring.Ring.TheVariants.{One, Two}
 use Rattle.chart.specs.declared.record.Record.{Record}
 use Rattle.chart.specs.declared.layout.Corners.{Corners}
-use Rattle.chart.specs.Chains.{On, along}
+use Rattle.chart.specs.Chains.{along}
 use Rattle.chart.specs.Records.{edge_at, leaving_at, not_after_at}
 use Rattle.chart.specs.Words.{Chained, Linked, Unlinked, Described, described, side_word, start, base}
 use Rattle.chart.proofs.Reading.{edge_read_lem, leaving_read}
 use Rattle.chart.proofs.Ringed.{chain_off, each_ring}
-use Rattle.chart.proofs.Writes.{links_kept}
+use Rattle.chart.proofs.Writes.{On, links_kept}
 
 module _ {M : Type 0} (ws : List ℕ) (k : ℕ) (c : Record M) where
   abbrev w2 : List ℕ

@@ -1,34 +1,43 @@
--- How many pairs pass a test, edge by edge of the first ring. Assumes nothing.
-use Rattle.std.proofs.Common.{◌≡◌, ℕ, ◌+◌, ◌≤◌, Bool, false, cond, List, [], ◌∷◌, ◌++◌, map, length, drop, refl, ap, ◌∙◌, arith}
-use Rattle.std.proofs.lemmas.List.{at_drop_all}
-use Rattle.plane.specs.declared.answer.Meet.{Meet}
-use Rattle.plane.specs.declared.answer.Meet.TheVariants.{Apart, Crossing, Overlap}
-use Rattle.plane.specs.Rings.{how_many}
-use Rattle.chart.specs.Crossings.{is_crossing, pairs}
-
-how_many-++ : {X : Type 0} (test : X → Bool) (xs ys : List X) → how_many test (xs ++ ys) ≡ how_many test xs + how_many test ys
-how_many-++ test [] ys = omega arith
-how_many-++ test (x ∷ xs) ys = omega (arith, how_many-++ test xs ys)
-
-how_many-map : {X Y : Type 0} (test : Y → Bool) (f : X → Y) (xs : List X) → how_many test (map f xs) ≡ how_many (λ x. test (f x)) xs
-how_many-map test f [] = refl
-how_many-map test f (x ∷ xs) = ap (λ n. cond (test (f x)) 1 0 + n) (how_many-map test f xs)
+-- How many pairs pass a test, by the elements of the first list. Assumes nothing.
+use Rattle.std.proofs.Common.{◌≡◌, ℕ, ◌+◌, ◌*◌, ◌≤◌, Bool, cond, List, [], ◌∷◌, map, length, count_by, sym, refl, ap, ◌∙◌, ap₂, arith}
+use Rattle.std.specs.List.{sum_by}
+use Rattle.std.proofs.lemmas.List.Sums.{sum_by-append, sum_by-cons, count_by-le-length}
+use Rattle.plane.specs.declared.edge.Edge.{Edge}
+use Rattle.plane.specs.Meaning.{Meaning}
+use Rattle.plane.specs.Outlines.{most_corners}
+use Rattle.plane.specs.Rings.{edges}
+use Rattle.plane.proofs.Edges.{length-edges}
+use Rattle.chart.specs.Crossings.{pairs, crosses, crossings}
 
 module _ {X Y : Type 0} (test : X → Y → Bool) where
   abbrev pub both : X × Y → Bool
   both p = test p.0 p.1
 
-  pub pairs_more : (x : X) (xs : List X) (ys : List Y) → how_many both (pairs (x ∷ xs) ys) ≡ how_many (test x) ys + how_many both (pairs xs ys)
-  pairs_more x xs ys = how_many-++ both (map (λ y. (x, y)) ys) (pairs xs ys) ∙ ap (λ n. n + how_many both (pairs xs ys)) (how_many-map both (λ y. (x, y)) ys)
+  count_by_with : (x : X) (ys : List Y) → count_by both (map (λ y. (x, y)) ys) ≡ count_by (test x) ys
+  count_by_with x [] = refl
+  count_by_with x (y ∷ ys) =
+      sum_by-cons (λ p. cond (both p) 1 0) (x, y) (map (λ y. (x, y)) ys) ∙ ap (λ n. cond (test x y) 1 0 + n) (count_by_with x ys) ∙ sym (sum_by-cons (λ y. cond (test x y) 1 0) y ys)
 
-  -- the step of a loop over the first list
-  pub pairs_next : (x : X) (xs : List X) (ys : List Y) (i found : ℕ) → drop i xs ≡ x ∷ drop (i + 1) xs → found + how_many both (pairs (drop i xs) ys) ≡ how_many both (pairs xs ys) → (found + how_many (test x) ys) + how_many both (pairs (drop (i + 1) xs) ys) ≡ how_many both (pairs xs ys)
-  pairs_next x xs ys i found next inv = omega (arith, ap (λ l. how_many both (pairs l ys)) next ∙ pairs_more x (drop (i + 1) xs) ys)
+  -- the pairs that pass, counted by the first element
+  pub count_by-pairs : (xs : List X) (ys : List Y) → count_by both (pairs xs ys) ≡ sum_by (λ x. count_by (test x) ys) xs
+  count_by-pairs [] ys = refl
+  count_by-pairs (x ∷ xs) ys =
+      sum_by-append (λ p. cond (both p) 1 0) (map (λ y. (x, y)) ys) (pairs xs ys) ∙ ap₂ (λ m n. m + n) (count_by_with x ys) (count_by-pairs xs ys) ∙ sym (sum_by-cons (λ x. count_by (test x) ys) x xs)
 
-  pub pairs_all : (xs : List X) (ys : List Y) (i found : ℕ) → length xs ≤ i → found + how_many both (pairs (drop i xs) ys) ≡ how_many both (pairs xs ys) → found ≡ how_many both (pairs xs ys)
-  pairs_all xs ys i found past inv = omega (arith, at_drop_all (λ l. how_many both (pairs l ys)) xs i past)
+  few_pairs : (xs : List X) (ys : List Y) → length ys ≤ most_corners → count_by both (pairs xs ys) ≤ length xs * most_corners
+  few_pairs [] ys h = omega arith
+  few_pairs (x ∷ xs) ys h =
+      omega (arith, count_by-pairs (x ∷ xs) ys, sum_by-cons (λ x. count_by (test x) ys) x xs, count_by-pairs xs ys, count_by-le-length (test x) ys, few_pairs xs ys h)
 
-pub not_crossing : {M : Type 0} (r : Meet M) → ((p q : M) → r ≡ Crossing p q → ⊥) → is_crossing r ≡ false
-not_crossing Apart h = refl
-not_crossing (Crossing p q) h = absurd (h p q refl)
-not_crossing (Overlap p q r s) h = refl
+module _ {S R C M P : Type 0} (meaning : Meaning S R C M P) (a : S) (one two : List C) where
+  -- how many crossings each edge of ring one has
+  abbrev pub crossed : Edge C → ℕ
+  crossed e = count_by (crosses meaning a e) (edges two)
+
+  pub by_edge : crossings meaning a one two ≡ sum_by crossed (edges one)
+  by_edge = count_by-pairs (crosses meaning a) (edges one) (edges two)
+
+  -- short rings have few crossings
+  pub few_crossings : length one ≤ most_corners → length two ≤ most_corners → crossings meaning a one two ≤ most_corners * most_corners
+  few_crossings h k =
+      omega (arith, few_pairs (crosses meaning a) (edges one) (edges two) (omega (arith, length-edges two, k)), length-edges one)

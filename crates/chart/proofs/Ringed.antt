@@ -1,15 +1,15 @@
 -- One more crossing on a ring, in the layout of the words. Assumes nothing.
-use Rattle.std.proofs.Common.{◌≡◌, ℕ, suc, ◌+◌, ◌*◌, ◌<◌, ◌≤◌, Bool, List, get_or, sym, subst, ⊎_elim, add-one, arith}
+use Rattle.std.proofs.Common.{◌≡◌, ℕ, ◌+◌, ◌*◌, ◌<◌, ◌≤◌, Bool, List, get_or, sym, subst, ⊎_elim, add-one, arith}
 use Rattle.plane.specs.declared.ring.Ring.{Ring}
 use Rattle.plane.specs.declared.ring.Ring.TheVariants.{One, Two}
 use Rattle.chart.specs.declared.record.Record.{Record}
 use Rattle.chart.specs.declared.layout.Corners.{Corners}
-use Rattle.chart.specs.Chains.{On, Puts, Keeps, along}
+use Rattle.chart.specs.Chains.{along}
 use Rattle.rules.specs.Chart.{other}
 use Rattle.chart.specs.Records.{edge_at, not_after_at}
 use Rattle.chart.specs.Words.{Linked, Unlinked, count, start, base}
 use Rattle.chart.proofs.Along.{along_below, along_once, along-length}
-use Rattle.chart.proofs.Writes.{on_in}
+use Rattle.chart.proofs.Writes.{On, Puts, Keeps, on_in}
 use Rattle.chart.proofs.Steps.{step_own, step_other}
 
 pub room : (ring : Ring) (n : Corners) → start ring n + count ring n ≤ base ring n
@@ -40,24 +40,25 @@ pub unlinked_by : (n : Corners) (ring : Ring) (e : ℕ) (list : List ℕ) (id : 
 unlinked_by n ring e list id ws ws' there keeps x j lo hi =
     keeps (n.one + n.two + 6 * x + j) (chain_off n ring e list x j there lo hi) (no_pointer ring n x j lo hi id)
 
-module _ {M : Type 0} (le : M → M → Bool) (corners : Corners) (cs : List (Record M)) (ring : Ring) (id : ℕ) (ws ws' : List ℕ) (b s : ℕ) where
-  own_at : edge_at cs ring id < count ring corners
+module _ {M : Type 0} (le : M → M → Bool) (corners : Corners) (cs : List (Record M)) (ring : Ring) (id : ℕ) (ws ws' : List ℕ) where
+  pub linked_own : edge_at cs ring id < count ring corners
       → Puts (not_after_at le cs ring) ws ws' (base ring corners) (start ring corners + edge_at cs ring id) id → Keeps ws ws' (base ring corners) (start ring corners + edge_at cs ring id) id
-      → Linked le corners cs ring id ws → Linked le corners cs ring (suc id) ws'
-  own_at there puts keeps linked =
+      → Linked le corners cs ring id ws → Linked le corners cs ring (id + 1) ws'
+  linked_own there puts keeps linked =
       let goes = not_after_at le cs ring in
       let edges = edge_at cs ring in
       let list = along goes edges (edges id) id in
       let links = linked (edges id) there in
       let below = along_below goes edges (edges id) id in
       let long = along-length goes edges (edges id) id in
-      step_own goes edges (base ring corners) (start ring corners) (count ring corners) id ws ws' (room ring corners) there linked
-      (puts list links below (along_once goes edges (edges id) id) long) (keeps list links below long)
+      subst (λ (n : ℕ). Linked le corners cs ring n ws') (sym (add-one id))
+      (step_own goes edges (base ring corners) (start ring corners) (count ring corners) id ws ws' (room ring corners) there linked
+      (puts list links below (along_once goes edges (edges id) id) long) (keeps list links below long))
 
-  other_at : (n : ℕ) → edge_at cs ring id < count ring corners
+  pub linked_other : (n : ℕ) → edge_at cs ring id < count ring corners
       → Keeps ws ws' (base ring corners) (start ring corners + edge_at cs ring id) id
       → Linked le corners cs ring id ws → Linked le corners cs (other ring) n ws → Linked le corners cs (other ring) n ws'
-  other_at n there keeps linked across e here =
+  linked_other n there keeps linked across e here =
       let goes = not_after_at le cs ring in
       let edges = edge_at cs ring in
       let off = apart ring corners e (edges id) here there in
@@ -66,35 +67,14 @@ module _ {M : Type 0} (le : M → M → Bool) (corners : Corners) (cs : List (Re
       (keeps (along goes edges (edges id) id) (linked (edges id) there) (along_below goes edges (edges id) id) (along-length goes edges (edges id) id))
       (across e here)
 
-  unlinked_at : edge_at cs ring id < count ring corners
+  pub linked_rest : edge_at cs ring id < count ring corners
       → Keeps ws ws' (base ring corners) (start ring corners + edge_at cs ring id) id
       → Linked le corners cs ring id ws → Unlinked corners ws ws'
-  unlinked_at there keeps linked =
+  linked_rest there keeps linked =
       let goes = not_after_at le cs ring in
       let edges = edge_at cs ring in
       let list = along goes edges (edges id) id in
       unlinked_by corners ring (edges id) list id ws ws' there (keeps list (linked (edges id) there) (along_below goes edges (edges id) id) (along-length goes edges (edges id) id))
-
-  pub linked_rest : b ≡ base ring corners → s ≡ start ring corners + edge_at cs ring id → edge_at cs ring id < count ring corners
-      → Keeps ws ws' b s id → Linked le corners cs ring id ws → Unlinked corners ws ws'
-  linked_rest eb es there keeps linked =
-      unlinked_at there (subst (λ (v : ℕ). Keeps ws ws' (base ring corners) v id) es (subst (λ (v : ℕ). Keeps ws ws' v s id) eb keeps)) linked
-
-  pub linked_own : b ≡ base ring corners → s ≡ start ring corners + edge_at cs ring id → edge_at cs ring id < count ring corners
-      → Puts (not_after_at le cs ring) ws ws' b s id → Keeps ws ws' b s id
-      → Linked le corners cs ring id ws → Linked le corners cs ring (id + 1) ws'
-  linked_own eb es there puts keeps linked =
-      subst (λ (n : ℕ). Linked le corners cs ring n ws') (sym (add-one id))
-      (own_at there
-      (subst (λ (v : ℕ). Puts (not_after_at le cs ring) ws ws' (base ring corners) v id) es (subst (λ (v : ℕ). Puts (not_after_at le cs ring) ws ws' v s id) eb puts))
-      (subst (λ (v : ℕ). Keeps ws ws' (base ring corners) v id) es (subst (λ (v : ℕ). Keeps ws ws' v s id) eb keeps))
-      linked)
-
-  pub linked_other : b ≡ base ring corners → s ≡ start ring corners + edge_at cs ring id → (n : ℕ) → edge_at cs ring id < count ring corners
-      → Keeps ws ws' b s id
-      → Linked le corners cs ring id ws → Linked le corners cs (other ring) n ws → Linked le corners cs (other ring) n ws'
-  linked_other eb es n there keeps linked =
-      other_at n there (subst (λ (v : ℕ). Keeps ws ws' (base ring corners) v id) es (subst (λ (v : ℕ). Keeps ws ws' v s id) eb keeps)) linked
 
 pub each_ring : (P : Ring → Type 0) → P One → P Two → (ring : Ring) → P ring
 each_ring P a b One = a

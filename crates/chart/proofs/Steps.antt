@@ -2,8 +2,8 @@
 use Rattle.std.proofs.Common.{◌≡◌, ℕ, suc, ◌+◌, ◌*◌, ◌<◌, ◌≤◌, Bool, eqb, List, get_or, sym, ap, ◌∙◌, subst, ⊎_elim, arith}
 use Rattle.std.proofs.lemmas.Bool.{cond_both, eqb-true, eqb-false}
 use Rattle.rules.specs.Lists.{In}
-use Rattle.chart.specs.Chains.{Links, On, insert, along}
-use Rattle.chart.proofs.Writes.{on_in, links_kept, below_apart}
+use Rattle.chart.specs.Chains.{Links, insert, along}
+use Rattle.chart.proofs.Writes.{On, on_in, links_kept, below_apart}
 use Rattle.chart.proofs.Along.{along_below, along_has}
 
 -- two chains with no slot in common

@@ -1,5 +1,5 @@
 -- The walk along a chain, up to the slot at which a crossing is put in. Assumes nothing.
-use Rattle.std.proofs.Common.{◌≡◌, ℕ, ◌+◌, ◌*◌, ◌<◌, ◌≤◌, Bool, true, false, List, [], ◌∷◌, length, get_or, sym, refl, ◌∙◌, subst, arith}
+use Rattle.std.proofs.Common.{◌≡◌, ℕ, ◌+◌, ◌*◌, ◌<◌, ◌≤◌, Bool, true, false, List, [], ◌∷◌, length, get_or, sym, ap, ◌∙◌, subst, arith}
 use Rattle.std.proofs.lemmas.Bool.{cond-true, cond-false}
 use Rattle.chart.specs.Chains.{Below, Links, spot}
 
@@ -12,8 +12,8 @@ abbrev pub Walked : (ℕ → ℕ → Bool) → List ℕ → ℕ → ℕ → ℕ 
 Walked goes ws base id slot at turn =
     (list : List ℕ) → Links ws base slot list → Below id list → length list ≤ id → Rest goes ws base id slot at turn list
 
-pub walked_none : (goes : ℕ → ℕ → Bool) (ws : List ℕ) (base id slot : ℕ) → Walked goes ws base id slot slot 0
-walked_none goes ws base id slot list h b n = (list, h, b, omega arith, refl)
+pub walked_none : (goes : ℕ → ℕ → Bool) (ws : List ℕ) (base id slot at : ℕ) → at ≡ slot → Walked goes ws base id slot at 0
+walked_none goes ws base id slot at e list h b n = (list, subst (λ v. Links ws base v list) (sym e) h, b, omega arith, ap (λ v. spot goes base id v list) (sym e))
 
 step : (goes : ℕ → ℕ → Bool) (ws : List ℕ) (base id slot at turn y : ℕ) (list rest : List ℕ) → id < 4294967296 → get_or ws at 0 ≡ y → y < id → goes y id ≡ true
     → Links ws base at rest → Below id rest → turn + length rest ≤ id → spot goes base id slot list ≡ spot goes base id at rest

@@ -1,8 +1,24 @@
 -- What two writes make of a chain, and of the others. Assumes nothing.
-use Rattle.std.proofs.Common.{◌≡◌, ℕ, ◌+◌, ◌*◌, ◌<◌, Bool, true, false, cond, ◌⊎◌, List, [], ◌∷◌, length, get_or, set, sym, refl, ◌∙◌, subst, inl, inr, arith, length-set, get_or-set_other, get_or-set_same}
+use Rattle.std.proofs.Common.{◌≡◌, ℕ, ◌+◌, ◌*◌, ◌<◌, ◌≤◌, Bool, true, false, cond, ◌⊎◌, List, [], ◌∷◌, length, get_or, set, sym, refl, ◌∙◌, subst, inl, inr, arith, length-set, get_or-set_other, get_or-set_same}
 use Rattle.std.proofs.lemmas.Bool.{cond_both}
 use Rattle.rules.specs.Lists.{In, Once}
-use Rattle.chart.specs.Chains.{Below, Links, On, insert, spot}
+use Rattle.chart.specs.Chains.{Below, Links, insert, spot}
+
+-- k is one of the slots that this reading comes by
+abbrev pub On : ℕ → ℕ → List ℕ → ℕ → Type 0
+On base slot [] k = k ≡ slot
+On base slot (x ∷ xs) k = (k ≡ slot) ⊎ On base (base + 6 * x) xs k
+
+-- words in which x is put into its place in the chain from the slot
+abbrev pub Puts : (ℕ → ℕ → Bool) → List ℕ → List ℕ → ℕ → ℕ → ℕ → Type 0
+Puts goes ws ws' base slot x =
+    (list : List ℕ) → Links ws base slot list → Below x list → Once list → length list ≤ x → Links ws' base slot (insert goes x list)
+
+-- words that differ in no slot but those of that chain and x's
+abbrev pub Keeps : List ℕ → List ℕ → ℕ → ℕ → ℕ → Type 0
+Keeps ws ws' base slot x =
+    (list : List ℕ) → Links ws base slot list → Below x list → length list ≤ x
+    → (k : ℕ) → (On base slot list k → ⊥) → (k ≡ base + 6 * x → ⊥) → get_or ws' k 0 ≡ get_or ws k 0
 
 pub below_in : (n : ℕ) (list : List ℕ) (y : ℕ) → Below n list → In y list → y < n
 below_in n [] y b i = absurd i
@@ -100,3 +116,14 @@ pub put_keeps : (goes : ℕ → ℕ → Bool) (base x slot : ℕ) (list : List �
     → (k : ℕ) → (On base slot list k → ⊥) → (k ≡ base + 6 * x → ⊥) → get_or ws' k 0 ≡ get_or ws k 0
 put_keeps goes base x slot list ws ws' p k off other =
     p.2 k (λ e. off (subst (On base slot list) (sym e) (spot_on goes base x slot list))) other
+
+-- the two writes that put x into its place
+pub placed : (goes : ℕ → ℕ → Bool) (base x slot at b : ℕ) (ws : List ℕ) → b ≡ base → slot < base → at < base + 6 * x → base + 6 * x < length ws
+    → ((list : List ℕ) → Links ws base slot list → Below x list → length list ≤ x → at ≡ spot goes base x slot list)
+    → Puts goes ws (set (set ws (b + 6 * x) (get_or ws at 0)) at x) base slot x × Keeps ws (set (set ws (b + 6 * x) (get_or ws at 0)) at x) base slot x
+placed goes base x slot at b ws same first within room finds =
+    let ws' : List ℕ = set (set ws (b + 6 * x) (get_or ws at 0)) at x in
+    let put : Put ws ws' base x at = subst (λ (v : ℕ). Put ws (set (set ws (v + 6 * x) (get_or ws at 0)) at x) base x at) (sym same) (put_writes ws base x at within room) in (
+      λ list h b o n. put_links goes base x slot list ws ws' (λ y i. omega arith) (omega arith) b o h (put_at ws ws' base x at (spot goes base x slot list) (finds list h b n) put),
+      λ list h b n. put_keeps goes base x slot list ws ws' (put_at ws ws' base x at (spot goes base x slot list) (finds list h b n) put),
+    )

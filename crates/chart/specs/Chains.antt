@@ -1,7 +1,6 @@
 -- The crossings along an edge: how each is put into its place, and the chain of pointers that tells them in one list of words.
 -- A crossing x has its pointer at `base + 6 * x`, where `base` tells the ring. Assumes nothing.
-use Rattle.std.specs.Prelude.{◌≡◌, ℕ, zero, suc, ◌+◌, ◌*◌, ◌<◌, ◌≤◌, Bool, cond, ◌⊎◌, List, [], ◌∷◌, length, ◌==◌, ◌≢◌, slice_index}
-use Rattle.rules.specs.Lists.{Once}
+use Rattle.std.specs.Prelude.{◌≡◌, ℕ, zero, suc, ◌+◌, ◌*◌, ◌<◌, Bool, cond, List, [], ◌∷◌, ◌==◌, slice_index}
 
 -- each is below n
 abbrev pub Below : ℕ → List ℕ → Type 0
@@ -12,11 +11,6 @@ Below n (x ∷ xs) = (x < n) × Below n xs
 abbrev pub Links : List ℕ → ℕ → ℕ → List ℕ → Type 0
 Links ws base slot [] = slice_index ws slot ≡ 4294967295
 Links ws base slot (x ∷ xs) = (slice_index ws slot ≡ x) × Links ws base (base + 6 * x) xs
-
--- k is one of the slots that this reading comes by
-abbrev pub On : ℕ → ℕ → List ℕ → ℕ → Type 0
-On base slot [] k = k ≡ slot
-On base slot (x ∷ xs) k = (k ≡ slot) ⊎ On base (base + 6 * x) xs k
 
 -- x put behind those that stand before it, up to the first that does not
 abbrev pub insert : (ℕ → ℕ → Bool) → ℕ → List ℕ → List ℕ
@@ -32,14 +26,3 @@ spot goes base x slot (y ∷ ys) = cond (goes y x) (spot goes base x (base + 6 *
 abbrev pub along : (ℕ → ℕ → Bool) → (ℕ → ℕ) → ℕ → ℕ → List ℕ
 along goes edge_of e zero = []
 along goes edge_of e (suc n) = cond (edge_of n == e) (insert goes n (along goes edge_of e n)) (along goes edge_of e n)
-
--- words in which x is put into its place in the chain from the slot
-abbrev pub Puts : (ℕ → ℕ → Bool) → List ℕ → List ℕ → ℕ → ℕ → ℕ → Type 0
-Puts goes ws ws' base slot x =
-    (list : List ℕ) → Links ws base slot list → Below x list → Once list → length list ≤ x → Links ws' base slot (insert goes x list)
-
--- words that differ in no slot but those of that chain and x's
-abbrev pub Keeps : List ℕ → List ℕ → ℕ → ℕ → ℕ → Type 0
-Keeps ws ws' base slot x =
-    (list : List ℕ) → Links ws base slot list → Below x list → length list ≤ x
-    → (k : ℕ) → (On base slot list k → ⊥) → (k ≢ base + 6 * x) → slice_index ws' k ≡ slice_index ws k

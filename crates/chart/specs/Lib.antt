@@ -1,7 +1,6 @@
 pub mod Chains
 pub mod Charts
 pub mod Crossings
-pub mod Filling
 pub mod Order
 pub mod Records
 pub mod Words

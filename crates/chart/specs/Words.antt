@@ -1,6 +1,6 @@
 -- The chart in words: a slot for each edge of ring one, then of ring two, and then six words for each crossing:
 -- the next along ring one, the next along ring two, its edge on either, the side on which it is left, and whether it was handed over. Assumes nothing.
-use Rattle.std.specs.Prelude.{◌≡◌, ℕ, ◌+◌, ◌*◌, ◌<◌, ◌≤◌, Bool, List, slice_index, slice_set}
+use Rattle.std.specs.Prelude.{◌≡◌, ℕ, ◌+◌, ◌*◌, ◌<◌, ◌≤◌, Bool, List, length, slice_index, slice_set}
 use Rattle.plane.specs.declared.ring.Ring.{Ring}
 use Rattle.plane.specs.declared.ring.Ring.TheVariants.{One, Two}
 use Rattle.rules.specs.Chart.{Chart}
@@ -42,6 +42,10 @@ pub record ToldBy (ws : List ℕ) (c : Chart) : Type 0 where
   pub waiting : (x : ℕ) → x < c.count → slice_index ws (c.corners One + c.corners Two + 6 * x + 5) ≡ 0
 
 module _ {M : Type 0} where
+  -- each crossing lies on an edge that its ring has
+  abbrev pub OnEdges : Corners → List (Record M) → Type 0
+  OnEdges n records = (ring : Ring) (x : ℕ) → x < length records → edge_at records ring x < count ring n
+
   -- from the slot of each edge of a ring the words give the crossings below m along it
   abbrev pub Linked : (M → M → Bool) → Corners → List (Record M) → Ring → ℕ → List ℕ → Type 0
   Linked le n records ring m ws =

@@ -1,36 +1,32 @@
 // How many crossings two outlines have.
-ghost use Rattle.std.specs.Prelude.{◌≡◌, ◌≤◌, length};
+ghost use Rattle.std.specs.Prelude.{◌≡◌, ◌≤◌, count_by};
 ghost use Rattle.plane.specs.Outlines.{most_corners};
-ghost use Rattle.plane.specs.Rings.{edges, how_many};
+ghost use Rattle.plane.specs.Rings.{edges};
 ghost use Rattle.chart.specs.Crossings.{crosses, crossings};
 
 use plane::answer::Meet;
 use plane::arithmetic::Arithmetic;
+use plane::edge::Edge;
 use plane::outline::Outline;
 
-// How many edges of a ring cross the edge from a to b.
-fn cross_edge<K: Arithmetic>(arith: &K, a: K::Corner, b: K::Corner, ring: &[K::Corner]) -> usize
-    requires { length ring.now ≤ most_corners }
-    ensures { result ≡ how_many (crosses K.Arithmetic.meaning arith.now (record { from = a; to = b })) (edges ring.now) }
+// Whether two edges cross.
+fn crosses<K: Arithmetic>(arith: &K, e: Edge<K::Corner>, f: Edge<K::Corner>) -> bool
+    ensures { result ≡ crosses K.Arithmetic.meaning arith.now e f }
 {
-    let mut found = 0;
-    for j in 0..ring.len() {
-        if let Meet::Crossing(_, _) = arith.meet(a, b, ring[j], ring[(j + 1) % ring.len()]) {
-            found += 1;
-        }
-    }
-    found
+    matches!(arith.meet(e.from, e.to, f.from, f.to), Meet::Crossing(_, _))
+}
+
+// How many edges of an outline cross an edge.
+fn cross_edge<K: Arithmetic>(arith: &K, e: Edge<K::Corner>, two: &Outline<K>) -> usize
+    ensures number { result ≡ count_by (crosses K.Arithmetic.meaning arith.now e) (edges two.now) }
+    ensures few { result ≤ most_corners }
+{
+    two.edges().filter(|f| crosses(arith, e, *f)).count()
 }
 
 /// How many pairs of an edge of each outline cross.
-pub fn count<K: Arithmetic, O: Outline<K>, P: Outline<K>>(arith: &K, one: &O, two: &P) -> usize
-    ensures { result ≡ crossings K.Arithmetic.meaning arith.now (O.Outline.list one.now) (P.Outline.list two.now) }
+pub fn count<K: Arithmetic>(arith: &K, one: &Outline<K>, two: &Outline<K>) -> usize
+    ensures { result ≡ crossings K.Arithmetic.meaning arith.now one.now two.now }
 {
-    let ring = one.corners();
-    let other = two.corners();
-    let mut found = 0;
-    for i in 0..ring.len() {
-        found += cross_edge(arith, ring[i], ring[(i + 1) % ring.len()], other);
-    }
-    found
+    one.edges().map(|e| cross_edge(arith, e, two)).sum()
 }

@@ -8,30 +8,21 @@ use plane::point_in_poly2d::point_in_poly2d;
 use plane::ring::Ring;
 
 /// The outline that lies inside the other, by the first corner of either, where they have no crossing.
-pub fn inner_ring<K: Arithmetic, O: Outline<K>, P: Outline<K>>(
+pub fn inner_ring<K: Arithmetic>(
     arith: &K,
-    one: &O,
-    two: &P,
+    one: &Outline<K>,
+    two: &Outline<K>,
     count: usize,
 ) -> Option<Ring>
-    ensures { result ≡ inner_where K.Arithmetic.meaning arith.now count (O.Outline.list one.now) (P.Outline.list two.now) }
+    ensures { result ≡ inner_where K.Arithmetic.meaning arith.now count one.now two.now }
 {
-    let ring = one.corners();
-    let other = two.corners();
     if count > 0 {
         return None;
     }
-    if ring.len() == 0 {
-        return None;
-    }
-    if other.len() == 0 {
-        return None;
-    }
-    if point_in_poly2d(arith, ring[0], two) {
+    let first = *one.corners().first()?;
+    let other = *two.corners().first()?;
+    if point_in_poly2d(arith, first, two) {
         return Some(Ring::One);
     }
-    if point_in_poly2d(arith, other[0], one) {
-        return Some(Ring::Two);
-    }
-    None
+    point_in_poly2d(arith, other, one).then_some(Ring::Two)
 }

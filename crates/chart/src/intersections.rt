@@ -1,14 +1,14 @@
 // The chart of two outlines, written into the caller's tables.
-ghost use Rattle.std.specs.Prelude.{◌≡◌, ◌+◌, ◌*◌, ◌<◌, ◌≤◌, true, false, List, ◌++◌, length, drop, is_ok, None, Ok};
+ghost use Rattle.std.specs.Prelude.{◌≡◌, ◌+◌, ◌*◌, ◌<◌, ◌≤◌, true, false, List, ◌++◌, length, drop, is_ok, Ok};
 ghost use Rattle.plane.specs.Outlines.{most_corners};
-ghost use Rattle.plane.specs.Refusals.{refused, told_of};
+ghost use Rattle.plane.specs.Refusals.{refused};
 ghost use Rattle.rules.specs.Chart.{Sound};
 ghost use Rattle.chart.specs.Charts.{InOrder, chart_of, refused_for};
 ghost use Rattle.chart.specs.Crossings.{crossings};
 ghost use Rattle.chart.specs.Records.{records_of};
 ghost use Rattle.chart.specs.Words.{ToldBy};
 
-use crate::chain::chain_all;
+use crate::chain::Chains;
 use crate::count::count;
 use crate::fill::fill;
 use crate::layout::Corners;
@@ -17,74 +17,66 @@ use plane::arithmetic::Arithmetic;
 use plane::outline::Outline;
 use plane::refusal::Refusal;
 
-// Why tables of these lengths do not take so many crossings, if they do not.
-fn refusal_of(corners: Corners, found: usize, records: usize, words: usize) -> Option<Refusal>
+// Refuses tables of these lengths that do not take so many crossings.
+fn refuse(corners: Corners, found: usize, records: usize, words: usize) -> Result<(), Refusal>
     requires few { (corners.one ≤ most_corners) × (corners.two ≤ most_corners) }
     requires small { found ≤ 1048576 }
-    ensures answer { told_of result ≡ refused_for corners.one corners.two found records words }
-    ensures fits { result ≡ None → (0 < corners.one) × (0 < corners.two) × (found ≤ records) × (6 * found + corners.one + corners.two + 8 ≤ words) }
+    ensures answer { refused result ≡ refused_for corners.one corners.two found records words }
+    ensures fits { is_ok result ≡ true → (0 < corners.one) × (0 < corners.two) × (found ≤ records) × (6 * found + corners.one + corners.two + 8 ≤ words) }
 {
     if corners.one == 0 || corners.two == 0 {
-        return Some(Refusal::NoCorners);
+        return Err(Refusal::NoCorners);
     }
     if records < found || words < 6 * found + corners.one + corners.two + 8 {
-        return Some(Refusal::TablesTooSmall);
+        return Err(Refusal::TablesTooSmall);
     }
-    None
+    Ok(())
 }
 
-// Writes the records and the words of two rings that have so many crossings.
+// Writes the records and the words of two outlines that have so many crossings.
 fn tabulate<K: Arithmetic>(
     arith: &K,
-    one: &[K::Corner],
-    two: &[K::Corner],
+    one: &Outline<K>,
+    two: &Outline<K>,
     records: &mut [Record<K::Mark>],
     words: &mut [u32],
     found: usize,
 )
-    requires short { (length one.now ≤ most_corners) × (length two.now ≤ most_corners) }
-    requires small { found ≤ 1048576 }
-    requires all { found ≡ length (records_of K.Arithmetic.meaning arith.now one.now two.now) }
+    requires all { found ≡ crossings K.Arithmetic.meaning arith.now one.now two.now }
     requires fits { (found ≤ length records.old) × (6 * found + length one.now + length two.now + 8 ≤ length words.old) }
     ensures written { records.new ≡ records_of K.Arithmetic.meaning arith.now one.now two.now ++ drop found records.old }
     ensures told { ToldBy words.new (chart_of K.Arithmetic.meaning arith.now one.now two.now) }
     ensures rest { drop (6 * found + length one.now + length two.now) words.new ≡ drop (6 * found + length one.now + length two.now) words.old }
 {
     fill(arith, one, two, records);
-    let corners = Corners {
-        one: one.len(),
-        two: two.len(),
+    let chains = Chains {
+        arith,
+        records: &records[..found],
+        corners: Corners::of(one, two),
     };
-    chain_all(arith, words, records, corners, found as u32);
+    chains.chain_all(words);
 }
 
 /// Writes down the crossings of two outlines, and tells in words how they stand along the edges of either. Answers how many there are.
 /// A refusal leaves the records and the words as they were.
-pub fn compute_sorted_edge_intersections<K: Arithmetic, O: Outline<K>, P: Outline<K>>(
+pub fn compute_sorted_edge_intersections<K: Arithmetic>(
     arith: &K,
-    one: &O,
-    two: &P,
+    one: &Outline<K>,
+    two: &Outline<K>,
     records: &mut [Record<K::Mark>],
     words: &mut [u32],
 ) -> Result<usize, Refusal>
-    ensures answer { refused result ≡ refused_for (length (O.Outline.list one.now)) (length (P.Outline.list two.now)) (crossings K.Arithmetic.meaning arith.now (O.Outline.list one.now) (P.Outline.list two.now)) (length records.old) (length words.old) }
+    ensures answer { refused result ≡ refused_for (length one.now) (length two.now) (crossings K.Arithmetic.meaning arith.now one.now two.now) (length records.old) (length words.old) }
     ensures kept { is_ok result ≡ false → (records.new ≡ records.old) × (words.new ≡ words.old) }
-    ensures found { is_ok result ≡ true → result ≡ Ok (crossings K.Arithmetic.meaning arith.now (O.Outline.list one.now) (P.Outline.list two.now)) }
-    ensures written { is_ok result ≡ true → records.new ≡ records_of K.Arithmetic.meaning arith.now (O.Outline.list one.now) (P.Outline.list two.now) ++ drop (crossings K.Arithmetic.meaning arith.now (O.Outline.list one.now) (P.Outline.list two.now)) records.old }
-    ensures told { is_ok result ≡ true → ToldBy words.new (chart_of K.Arithmetic.meaning arith.now (O.Outline.list one.now) (P.Outline.list two.now)) }
-    ensures rest { is_ok result ≡ true → drop (6 * crossings K.Arithmetic.meaning arith.now (O.Outline.list one.now) (P.Outline.list two.now) + length (O.Outline.list one.now) + length (P.Outline.list two.now)) words.new ≡ drop (6 * crossings K.Arithmetic.meaning arith.now (O.Outline.list one.now) (P.Outline.list two.now) + length (O.Outline.list one.now) + length (P.Outline.list two.now)) words.old }
+    ensures found { is_ok result ≡ true → result ≡ Ok (crossings K.Arithmetic.meaning arith.now one.now two.now) }
+    ensures written { is_ok result ≡ true → records.new ≡ records_of K.Arithmetic.meaning arith.now one.now two.now ++ drop (crossings K.Arithmetic.meaning arith.now one.now two.now) records.old }
+    ensures told { is_ok result ≡ true → ToldBy words.new (chart_of K.Arithmetic.meaning arith.now one.now two.now) }
+    ensures rest { is_ok result ≡ true → drop (6 * crossings K.Arithmetic.meaning arith.now one.now two.now + length one.now + length two.now) words.new ≡ drop (6 * crossings K.Arithmetic.meaning arith.now one.now two.now + length one.now + length two.now) words.old }
 {
-    let ring = one.corners();
-    let other = two.corners();
-    let corners = Corners {
-        one: ring.len(),
-        two: other.len(),
-    };
+    let corners = Corners::of(one, two);
     let found = count(arith, one, two);
-    if let Some(refusal) = refusal_of(corners, found, records.len(), words.len()) {
-        return Err(refusal);
-    }
-    tabulate(arith, ring, other, records, words, found);
+    refuse(corners, found, records.len(), words.len())?;
+    tabulate(arith, one, two, records, words, found);
     Ok(found)
 }
 

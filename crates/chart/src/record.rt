@@ -4,6 +4,7 @@ ghost use Rattle.chart.specs.Records.{leaving_side, on};
 
 use plane::answer::Side;
 use plane::arithmetic::Arithmetic;
+use plane::edge::Edge;
 use plane::ring::Ring;
 
 /// Where a crossing lies on a ring: the number of the edge, and the mark on it.
@@ -33,20 +34,14 @@ impl<M> Record<M> {
     }
 }
 
-/// The ring along which a loop leaves the crossing of ring one's edge from a to b with ring two's edge from c to d.
-pub fn leaving<K: Arithmetic>(
-    arith: &K,
-    a: K::Corner,
-    b: K::Corner,
-    c: K::Corner,
-    d: K::Corner,
-) -> Ring
-    ensures { result ≡ leaving_side K.Arithmetic.meaning arith.now (record { from = a; to = b }) (record { from = c; to = d }) }
+/// The ring along which a loop leaves the crossing of an edge of ring one with an edge of ring two.
+pub fn leaving<K: Arithmetic>(arith: &K, e: Edge<K::Corner>, f: Edge<K::Corner>) -> Ring
+    ensures { result ≡ leaving_side K.Arithmetic.meaning arith.now e f }
 {
-    match arith.side(a, b, c) {
+    match arith.side(e.from, e.to, f.from) {
         Side::Left => Ring::One,
         Side::Right => Ring::Two,
-        Side::Level => match arith.side(a, b, d) {
+        Side::Level => match arith.side(e.from, e.to, f.to) {
             Side::Left => Ring::Two,
             _ => Ring::One,
         },

@@ -1,36 +1,20 @@
-use Rattle.std.proofs.Common.{◌≤◌, length, ◌∙◌, ap₂, arith}
+use Rattle.std.proofs.Common.{◌^◌, rules, sym, refl, ◌∙◌, arith}
+use Rattle.std.proofs.lemmas.Iterator.{YieldsList-from_map}
+use Rattle.std.proofs.lemmas.Iterator.Adapters.{fits_from_length, at_most_from_yields_List}
+use Rattle.std.proofs.lemmas.Iterator.Consumers.{YieldsList-at, YieldsList-from_first, sum_by_from_yields_List}
 use Rattle.plane.specs.Outlines.{most_corners}
-use Rattle.plane.specs.Rings.{edges}
-use Rattle.plane.proofs.Edges.{edge, edges_read, length-edges, how_many≤}
-use Rattle.chart.specs.Crossings.{crosses, crossings}
-use Rattle.chart.proofs.Pairs.{pairs_next, pairs_all}
-use Rattle.chart.proofs.count.count.Given as given
+use Rattle.plane.specs.Rings.{edges, edges_left}
+use Rattle.chart.proofs.Pairs.{crossed, by_edge}
 use Rattle.chart.proofs.count.count.Goals as goal
 
--- an edge crosses at most as many others as the other ring has
-few : (g : given.Over) (c : goal.After-cross_edge-found g) → c.cross_edge-found.result ≤ most_corners
-few g c =
-    let other = c.corners-other.result.now in
-    let most = how_many≤ (crosses g.K.Arithmetic.meaning c.args.arith.now (edge c.index-ring-i.result c.index-ring-i-in-loop-i.result)) (edges other) in
-    omega (arith, c.cross_edge-found.ensures, most, length-edges other, c.corners-other.ensures.short)
-
-pub overflow_add-found : goal.overflow_add-found
-overflow_add-found g c = omega (arith, few g c, c.loop-i.invariant.0, c.corners-ring.ensures.short)
-
-pub loop-i-preserved : goal.loop-i-preserved
-loop-i-preserved g c =
-    let ring = c.corners-ring.result.now in
-    let test = crosses g.K.Arithmetic.meaning c.args.arith.now in
-    let fs = edges c.corners-other.result.now in
-    let e = edge c.index-ring-i.result c.index-ring-i-in-loop-i.result in
-    let next = edges_read ring c.loop-i.i c.index-ring-i.result c.index-ring-i-in-loop-i.result c.loop-i-test.true c.index-ring-i.is c.index-ring-i-in-loop-i.is in
-    let more = pairs_next test e (edges ring) fs c.loop-i.i c.loop-i.found next c.loop-i.invariant.1 in
-    (omega (arith, few g c, c.loop-i.invariant.0), omega (arith, c.cross_edge-found.ensures, more))
+pub sum-requires-clause-fits : goal.sum-requires-clause-fits
+sum-requires-clause-fits g c =
+    fits_from_length _ _ most_corners (2 ^ 64) (at_most_from_yields_List (YieldsList-at c.map.ensures.source (YieldsList-from_first (λ x. x) edges_left _ refl)) c.edges.ensures.few) c.map.ensures.closure (omega arith) (λ x r q k. search rules)
 
 pub returns : goal.returns
 returns g c =
-    let ring = c.corners-ring.result.now in
-    let test = crosses g.K.Arithmetic.meaning c.args.arith.now in
-    let past : length (edges ring) ≤ c.loop-i.i = omega (arith, length-edges ring) in
-    let all = pairs_all test (edges ring) (edges c.corners-other.result.now) c.loop-i.i c.loop-i.found past c.loop-i.invariant.1 in
-    all ∙ ap₂ (crossings g.K.Arithmetic.meaning c.args.arith.now) c.corners-ring.ensures.value c.corners-other.ensures.value
+    let m = g.K.Arithmetic.meaning in
+    let a = c.args.arith.now in
+    let one = c.args.one.now in
+    let two = c.args.two.now in
+    sum_by_from_yields_List (crossed m a one two) (edges one) c.map.result c.sum.result c.sum.ensures.ran (YieldsList-from_map _ (crossed m a one two) (YieldsList-at c.map.ensures.source (YieldsList-from_first (λ x. x) edges_left (edges one) c.edges.ensures.value)) c.map.ensures.closure (λ x r q k. search rules)) ∙ sym (by_edge m a one two)

@@ -1,46 +1,49 @@
-use Rattle.std.proofs.Common.{ℕ, ◌+◌, ◌*◌, ◌<◌, List, ◌++◌, length, drop, sym, ap, ◌∙◌, subst, arith}
-use Rattle.chart.specs.declared.record.Record.{Record}
+use Rattle.std.proofs.Common.{◌≤◌, ◌++◌, length, drop, sym, ap, ◌∙◌, subst, arith}
+use Rattle.plane.specs.Outlines.{most_corners}
 use Rattle.chart.specs.Charts.{inner_where}
-use Rattle.chart.specs.Records.{records_of, edge_at}
-use Rattle.chart.specs.Words.{Chained, count}
+use Rattle.chart.specs.Records.{records_of}
+use Rattle.chart.specs.Words.{Chained, OnEdges}
 use Rattle.chart.proofs.Charted.{edge_low}
-use Rattle.chart.proofs.Filling.{drop_further}
-use Rattle.chart.proofs.Telling.{edge-front, told-front}
+use Rattle.chart.proofs.Noting.{length-records, front_written}
+use Rattle.chart.proofs.Pairs.{few_crossings}
+use Rattle.chart.proofs.Telling.{told_by}
 use Rattle.chart.proofs.intersections.tabulate.Goals as goal
 
 pub fill-requires : goal.fill-requires
-fill-requires g c = record { short = c.requires.short; room = omega (arith, c.requires.all, c.requires.fits.0) }
+fill-requires g c = omega (arith, length-records g.K.Arithmetic.meaning c.args.arith.now c.args.one.now c.args.two.now, c.requires.all, c.requires.fits.0)
 
-pub chain_all-requires : goal.chain_all-requires
-chain_all-requires g c =
+pub invariant_of-chains : goal.invariant_of-chains
+invariant_of-chains g c =
+    let m = g.K.Arithmetic.meaning in
+    let a = c.args.arith.now in
+    let one = c.args.one.now in
+    let two = c.args.two.now in
+    let n = c.of.ensures.value in
+    let short : length one ≤ most_corners = omega (arith, ap (λ n. n.one) n, c.of.ensures.few.0) in
+    let short' : length two ≤ most_corners = omega (arith, ap (λ n. n.two) n, c.of.ensures.few.1) in
+    let front = front_written m a one two c.args.records.now c.fill.new.records c.args.found c.requires.all c.fill.ensures in
+    record {
+      few = omega (arith, ap length front, length-records m a one two, few_crossings m a one two short short');
+      on_edges = subst (OnEdges c.of.result) (sym front) (subst (λ n. OnEdges n (records_of m a one two)) (sym n) (edge_low m a one two));
+    }
+
+pub returns-clause-written : goal.returns-clause-written
+returns-clause-written g c =
+    let m = g.K.Arithmetic.meaning in
+    let a = c.args.arith.now in
+    let one = c.args.one.now in
+    let two = c.args.two.now in
+    c.fill.ensures ∙ ap (λ k. records_of m a one two ++ drop k c.args.records.now) (length-records m a one two ∙ sym c.requires.all)
+
+pub returns-clause-told : goal.returns-clause-told
+returns-clause-told g c =
     let m = g.K.Arithmetic.meaning in
     let a = c.args.arith.now in
     let one = c.args.one.now in
     let two = c.args.two.now in
     let rs = records_of m a one two in
-    let more = drop (length rs) c.args.records.now in
-    record {
-      room = omega (arith, c.requires.fits.1);
-      marked = omega (arith, c.fill.auto.records, c.requires.fits.0);
-      edge = λ ring x h.
-          let lt : x < length rs = omega (arith, c.requires.all) in
-          subst (λ (cs : List (Record g.row.K-Mark.Denot)). edge_at cs ring x < count ring (record { one = length one; two = length two })) (sym c.fill.ensures)
-          (subst (λ (v : ℕ). v < count ring (record { one = length one; two = length two })) (sym (edge-front rs more ring x lt)) (edge_low m a one two ring x lt));
-    }
-
-pub returns : goal.returns
-returns g c =
-    let m = g.K.Arithmetic.meaning in
-    let a = c.args.arith.now in
-    let one = c.args.one.now in
-    let two = c.args.two.now in
-    let rs = records_of m a one two in
-    let more = drop (length rs) c.args.records.now in
-    record {
-      written = c.fill.ensures ∙ ap (λ (k : ℕ). rs ++ drop k c.args.records.now) (sym c.requires.all);
-      told =
-          told-front rs more (m.not_after a) (record { one = length one; two = length two }) (inner_where m a (length rs) one two) c.chain_all.new.words
-          (subst (λ (cs : List (Record g.row.K-Mark.Denot)). Chained (m.not_after a) (record { one = length one; two = length two }) cs (length rs) c.chain_all.new.words) c.fill.ensures
-          (subst (λ (k : ℕ). Chained (m.not_after a) (record { one = length one; two = length two }) c.fill.new.records k c.chain_all.new.words) c.requires.all c.chain_all.ensures.told));
-      rest = drop_further c.chain_all.new.words c.args.words.now (length one + length two + 6 * c.args.found) (6 * c.args.found + length one + length two) (omega arith) c.chain_all.ensures.rest;
-    }
+    let le = m.not_after a in
+    let front = front_written m a one two c.args.records.now c.fill.new.records c.args.found c.requires.all c.fill.ensures in
+    let ws = c.chain_all.new.words in
+    told_by le (record { one = length one; two = length two }) rs (inner_where m a (length rs) one two) ws
+    (subst (λ n. Chained le n rs (length rs) ws) c.of.ensures.value (subst (λ cs. Chained le c.of.result cs (length cs) ws) front c.chain_all.ensures.told))

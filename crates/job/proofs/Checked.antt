@@ -3,8 +3,7 @@ use Rattle.std.proofs.Common.{◌≡◌, ℕ, ◌≤◌, is_none, List, [], ◌�
 use Rattle.std.specs.List.{position_or_len, AllByRecursion as All}
 use Rattle.std.proofs.lemmas.Grind.{common_steps}
 use Rattle.plane.specs.Outlines.{most_corners, checked}
-use Rattle.decimetre.specs.Exact.{Pair}
-use Rattle.decimetre.specs.Exact.{admitted, exact}
+use Rattle.decimetre.specs.Exact.{Pair, admitted, exact}
 use Rattle.plane.specs.declared.ring.Ring.{Ring}
 use Rattle.job.specs.Format.{Record, Lists, pairs_in}
 use Rattle.job.specs.Outlined.{corners_in, placed}

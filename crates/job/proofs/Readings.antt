@@ -11,9 +11,6 @@ abbrev Onward : Type 0
 Onward = ℕ → Lists → List ℕ → Result Lists Told
 
 -- two readings that agree on what follows a record agree on it
-pub then_same : {X Y : Type 0} (r : Result X Told) (f g : X → Result Y Told) → ((x : X) → f x ≡ g x) → and_then r f ≡ and_then r g
-then_same r f g h = grind arith
-
 one_same : (f g : Onward) (at : ℕ) (l : Lists) (left : List ℕ) → ((m : Lists) → f (at + 5) m (drop 5 left) ≡ g (at + 5) m (drop 5 left)) → one_record f at l left ≡ one_record g at l left
 one_same f g at l left h = grind arith
 

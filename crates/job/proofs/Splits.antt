@@ -7,8 +7,7 @@ use Rattle.std.specs.List.{AllByRecursion as All}
 use Rattle.std.proofs.lemmas.Grind.{common_steps}
 use Rattle.plane.specs.Refusals.{Told, tells}
 use Rattle.plane.specs.Outlines.{most_corners}
-use Rattle.decimetre.specs.Exact.{Pair}
-use Rattle.decimetre.specs.Exact.{admitted}
+use Rattle.decimetre.specs.Exact.{Pair, admitted}
 use Rattle.plane.specs.declared.ring.Ring.{Ring}
 use Rattle.plane.specs.declared.ring.Ring.TheVariants.{One, Two}
 use Rattle.job.specs.declared.reader.Kind.{Kind}

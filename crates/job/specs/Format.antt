@@ -3,9 +3,8 @@ use Rattle.std.specs.Prelude.{ℕ, zero, suc, ◌+◌, ◌-◌, ◌*◌, ◌/◌
 use Rattle.plane.specs.declared.refusal.Refusal.{Refusal}
 use Rattle.plane.specs.Refusals.{Told, tells, told}
 use Rattle.plane.specs.Outlines.{most_corners}
-use Rattle.decimetre.specs.Exact.{Pair}
 use Rattle.decimetre.specs.declared.corner.Corner.{Corner}
-use Rattle.decimetre.specs.Exact.{admitted}
+use Rattle.decimetre.specs.Exact.{Pair, admitted}
 use Rattle.plane.specs.declared.ring.Ring.{Ring}
 use Rattle.plane.specs.declared.ring.Ring.TheVariants.{One, Two}
 use Rattle.job.specs.declared.reader.Kind.{Kind}

@@ -47,6 +47,7 @@ impl Job {
                 Kind::End => return Ok(job),
             }
         }
+        // The end record is missing.
         Err(Refusal::CutShort(bytes.len()))
     }
 }

@@ -1,119 +1,83 @@
 // From a question to its answer.
-use crate::calls::{inside, seg, side};
-use crate::text::{Written, bits, ring};
-use decimetre::corner::{Corner as Whole, Decimetre};
-use decimetre::outline::DecimetreOutline;
-use single::corner::Corner;
-use single::outline::SingleOutline;
+use crate::failure::Failure;
+use crate::question::{Call, Precision, Question};
+use crate::written::{Told, Written, ring};
+use decimetre::corner::Decimetre;
+use plane::answer::{Meet, Side};
 use single::tolerance::Single;
-use std::alloc::{AllocError, Global};
+use std::alloc::Global;
+use std::fmt;
+use std::str::FromStr;
 
-// The five words of a question.
+/// The answer to a call.
 #[derive(Clone, Copy)]
-struct Question<'a> {
-    arith: &'a str,
-    call: &'a str,
-    tolerance: &'a str,
-    one: &'a str,
-    two: &'a str,
+enum Answer<M> {
+    Meet(Meet<M>),
+    Side(Side),
+    Inside(bool),
 }
 
-fn words(text: &str) -> Option<Question<'_>> {
-    let (arith, rest) = text.split_once(" ")?;
-    let (call, rest) = rest.split_once(" ")?;
-    let (tolerance, rest) = rest.split_once(" ")?;
-    let (one, two) = rest.split_once(" ")?;
-    Some(Question {
-        arith,
-        call,
-        tolerance,
-        one,
-        two,
+impl<M: Copy> fmt::Display for Answer<M>
+where
+    Told<M>: fmt::Display,
+{
+    fn fmt<W: fmt::Write>(&self, f: &mut fmt::Formatter<W>) -> fmt::Result {
+        match *self {
+            Answer::Meet(Meet::Apart) => f.write_str("apart"),
+            Answer::Meet(Meet::Crossing(m, n)) => write!(f, "cross {} {}", Told(m), Told(n)),
+            Answer::Meet(Meet::Overlap(m, n, o, p)) => {
+                write!(f, "overlap {} {} {} {}", Told(m), Told(o), Told(n), Told(p))
+            }
+            Answer::Side(Side::Left) => f.write_str("left"),
+            Answer::Side(Side::Right) => f.write_str("right"),
+            Answer::Side(Side::Level) => f.write_str("level"),
+            Answer::Inside(true) => f.write_str("yes"),
+            Answer::Inside(false) => f.write_str("no"),
+        }
+    }
+}
+
+// What an arithmetic answers to a call on the pairs of two rings.
+fn answer_of<K: Written>(
+    arith: &K,
+    call: Call,
+    one: &[K::Raw],
+    two: &[K::Raw],
+) -> Result<Answer<K::Mark>, Failure> {
+    let corner = |pair: &K::Raw| K::admitted(*pair).ok_or(Failure::Unreadable);
+    Ok(match (call, one, two) {
+        (Call::Seg, [a, b], [c, d]) => {
+            Answer::Meet(arith.meet(corner(a)?, corner(b)?, corner(c)?, corner(d)?))
+        }
+        (Call::Side, [a, b], [c]) => Answer::Side(arith.side(corner(a)?, corner(b)?, corner(c)?)),
+        (Call::Inside, [p], ring) => Answer::Inside(arith.inside(corner(p)?, ring)?),
+        _ => return Err(Failure::Unreadable),
     })
 }
 
-// A text of its own, if there is one.
-fn owned(heap: Global, text: Option<&str>) -> Result<Option<String>, AllocError> {
-    match text {
-        Some(text) => Ok(Some(String::from_str(heap, text)?)),
-        None => Ok(None),
-    }
+// Prints a question with its answer.
+fn reply_in<K: Written>(
+    rt: &(impl Alloc<A = Global> + Print),
+    text: &str,
+    question: Question,
+) -> Result<(), Failure>
+where
+    Told<K::Raw>: FromStr<Err = Failure>,
+    Told<K::Mark>: fmt::Display,
+{
+    let arith = K::with(question.tolerance)?;
+    let one = ring::<K::Raw>(rt.alloc(), question.one)?;
+    let two = ring::<K::Raw>(rt.alloc(), question.two)?;
+    let answer = answer_of(&arith, question.call, one.as_slice(), two.as_slice())?;
+    println!(rt; "{text} => {answer}")?;
+    Ok(())
 }
 
-fn yes_or_no(answer: Option<bool>) -> Option<&'static str> {
-    match answer? {
-        true => Some("yes"),
-        false => Some("no"),
-    }
-}
-
-fn in_decimetres(heap: Global, q: Question) -> Result<Option<String>, AllocError> {
-    let Some(one) = ring::<Decimetre>(heap, q.one)? else {
-        return Ok(None);
-    };
-    let Some(two) = ring::<Decimetre>(heap, q.two)? else {
-        return Ok(None);
-    };
-    let (one, two) = (one.as_slice(), two.as_slice());
-    match q.call {
-        "seg" => seg(heap, &Decimetre, one, two),
-        "side" => owned(heap, side(&Decimetre, one, two)),
-        "inside" => {
-            let mut places = [Whole { x: 0, y: 0 }; 1024];
-            let mut store = &mut places[0..1024];
-            let mut outline = DecimetreOutline::empty();
-            owned(
-                heap,
-                yes_or_no(inside(&Decimetre, one, two, &mut store, &mut outline)),
-            )
-        }
-        _ => Ok(None),
-    }
-}
-
-// The arithmetic of a tolerance: the walk's where none is told.
-fn single_with(tolerance: &str) -> Option<Single> {
-    if tolerance == "-" {
-        return Some(Single::walk());
-    }
-    Single::new(bits(tolerance)?).ok()
-}
-
-fn in_single(heap: Global, q: Question) -> Result<Option<String>, AllocError> {
-    let Some(arith) = single_with(q.tolerance) else {
-        return Ok(None);
-    };
-    let Some(one) = ring::<Single>(heap, q.one)? else {
-        return Ok(None);
-    };
-    let Some(two) = ring::<Single>(heap, q.two)? else {
-        return Ok(None);
-    };
-    let (one, two) = (one.as_slice(), two.as_slice());
-    match q.call {
-        "seg" => seg(heap, &arith, one, two),
-        "side" => owned(heap, side(&arith, one, two)),
-        "inside" => {
-            let mut places = [Corner { x: 0.0, y: 0.0 }; 1024];
-            let mut store = &mut places[0..1024];
-            let mut outline = SingleOutline::empty();
-            owned(
-                heap,
-                yes_or_no(inside(&arith, one, two, &mut store, &mut outline)),
-            )
-        }
-        _ => Ok(None),
-    }
-}
-
-/// The answer to a question, if it can be read.
-pub(crate) fn answer(heap: Global, text: &str) -> Result<Option<String>, AllocError> {
-    let Some(q) = words(text) else {
-        return Ok(None);
-    };
-    match q.arith {
-        "dm" => in_decimetres(heap, q),
-        "f32" => in_single(heap, q),
-        _ => Ok(None),
+/// Prints a question with its answer, if the question can be read.
+pub(crate) fn reply(rt: &(impl Alloc<A = Global> + Print), text: &str) -> Result<(), Failure> {
+    let question = Question::try_from(text)?;
+    match question.precision {
+        Precision::Decimetre => reply_in::<Decimetre>(rt, text, question),
+        Precision::Single => reply_in::<Single>(rt, text, question),
     }
 }

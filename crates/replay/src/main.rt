@@ -2,28 +2,27 @@
 #![tactic(auto)]
 
 mod answer;
-mod calls;
-mod text;
+mod failure;
+mod question;
+mod written;
 
-use crate::answer::answer;
+use crate::answer::reply;
+use crate::failure::Failure;
 use std::io::{BufRead, BufReader};
 
 // What stands before the arrow, or the whole line where there is none.
-fn question(line: &str) -> &str {
-    match line.split_once(" => ") {
-        Some((question, _)) => question,
-        None => line,
-    }
+fn asked(line: &str) -> &str {
+    line.split_once(" => ").map_or(line, |(asked, _)| asked)
 }
 
 fn main(rt: HostRuntime) -> anyhow::Result<()> {
     let heap = rt.alloc();
     for line in BufReader::new(heap, rt.stdin())?.lines(heap) {
         let line = line?;
-        let question = question(line.as_str());
-        match answer(heap, question)? {
-            Some(answer) => println!(rt; "{question} => {answer}")?,
-            None => println!(rt; "{question} => unreadable")?,
+        let text = asked(line.as_str());
+        match reply(&rt, text) {
+            Err(why @ Failure::Unreadable) => println!(rt; "{text} => {why}")?,
+            replied => replied?,
         }
     }
     Ok(())

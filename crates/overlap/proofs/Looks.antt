@@ -32,7 +32,7 @@ found_is (Ok l) one two held = ap₂ (λ cs ds. Ok (found_between cs ds)) (corne
 found_is (Err t) one two held = absurd held
 
 -- a refusal is that of the reading, since there are places for every job
-pub refused_is : (bytes : List ℕ) (places : ℕ) (r : Result (Unit {0}) Refusal) (e : Refusal) → ((i : ℕ) → Fits w8 (get_or bytes i 0)) → places ≡ most_corners + most_corners → r ≡ Err e → refused r ≡ placed places (read_job bytes) → Err (told e) ≡ look_at bytes
+pub refused_is : {X : Type 0} (bytes : List ℕ) (places : ℕ) (r : Result X Refusal) (e : Refusal) → ((i : ℕ) → Fits w8 (get_or bytes i 0)) → places ≡ most_corners + most_corners → r ≡ Err e → refused r ≡ placed places (read_job bytes) → Err (told e) ≡ look_at bytes
 refused_is bytes places r e fits size is tells = go (read_job bytes) refl (sym (ap refused is) ∙ tells)
   where
     go : (answer : Result Lists Told) → read_job bytes ≡ answer → Some (told e) ≡ placed places answer → Err (told e) ≡ and_then answer (λ l. Ok (found_in l))

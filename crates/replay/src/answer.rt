@@ -4,6 +4,8 @@ use crate::question::{Call, Precision, Question};
 use crate::written::{Told, Written, ring};
 use decimetre::corner::Decimetre;
 use plane::answer::{Meet, Side};
+use plane::check::check;
+use plane::point_in_poly2d::point_in_poly2d;
 use single::tolerance::Single;
 use std::alloc::Global;
 use std::fmt;
@@ -39,6 +41,7 @@ where
 
 // What an arithmetic answers to a call on the pairs of two rings.
 fn answer_of<K: Written>(
+    heap: Global,
     arith: &K,
     call: Call,
     one: &[K::Raw],
@@ -50,7 +53,12 @@ fn answer_of<K: Written>(
             Answer::Meet(arith.meet(corner(a)?, corner(b)?, corner(c)?, corner(d)?))
         }
         (Call::Side, [a, b], [c]) => Answer::Side(arith.side(corner(a)?, corner(b)?, corner(c)?)),
-        (Call::Inside, [p], ring) => Answer::Inside(arith.inside(corner(p)?, ring)?),
+        (Call::Inside, [p], ring) => {
+            let p = corner(p)?;
+            let mut places = vec![in heap; p; ring.len()]?;
+            let ring = check::<K>(ring, &mut places.as_mut_slice())?;
+            Answer::Inside(point_in_poly2d(arith, p, &ring))
+        }
         _ => return Err(Failure::Unreadable),
     })
 }
@@ -65,10 +73,11 @@ where
     Told<K::Raw>: FromStr<Err = Failure>,
     Told<K::Mark>: fmt::Display,
 {
+    let heap = rt.alloc();
     let arith = K::with(question.tolerance)?;
-    let one = ring::<K::Raw>(rt.alloc(), question.one)?;
-    let two = ring::<K::Raw>(rt.alloc(), question.two)?;
-    let answer = answer_of(&arith, question.call, one.as_slice(), two.as_slice())?;
+    let one = ring(heap, question.one)?;
+    let two = ring(heap, question.two)?;
+    let answer = answer_of(heap, &arith, question.call, one.as_slice(), two.as_slice())?;
     println!(rt; "{text} => {answer}")?;
     Ok(())
 }

@@ -16,14 +16,14 @@ pub(crate) enum Failure {
     Io(#[from] io::Error),
 }
 
-// A number that is none.
+// A text that is no number.
 impl From<ParseIntError> for Failure {
     fn from(_error: ParseIntError) -> Failure {
         Failure::Unreadable
     }
 }
 
-// A ring or a tolerance that is refused.
+// A tolerance or a ring that is refused.
 impl From<Refusal> for Failure {
     fn from(_refusal: Refusal) -> Failure {
         Failure::Unreadable

@@ -1,20 +1,42 @@
 // How the vectors write tolerances, numbers, pairs, rings and marks.
 use crate::failure::Failure;
-use decimetre::corner::{Corner as Whole, Decimetre, Mark as Fraction, Pair as WholePair};
-use decimetre::outline::DecimetreOutline;
+use decimetre::corner::{Decimetre, Fraction};
 use plane::arithmetic::Arithmetic;
-use plane::check::check;
-use plane::point_in_poly2d::point_in_poly2d;
-use single::corner::{Corner, Mark as Weights, Pair};
-use single::outline::SingleOutline;
+use plane::mark::Mark;
+use plane::pair::Pair;
+use single::corner::Weights;
 use single::tolerance::Single;
 use std::alloc::Global;
 use std::fmt;
 use std::num::{f32_from_bits_with_nan, f32_to_bits_with_nan};
 use std::str::FromStr;
 
+/// An arithmetic that the vectors ask.
+pub(crate) trait Written: Arithmetic + Copy {
+    /// The arithmetic with the tolerance of this text.
+    fn with(tolerance: &str) -> Result<Self, Failure>;
+}
+
+// Its tolerance is 0, whatever is told.
+impl Written for Decimetre {
+    fn with(_tolerance: &str) -> Result<Self, Failure> {
+        Ok(Decimetre)
+    }
+}
+
+// A dash is the walk's tolerance.
+impl Written for Single {
+    fn with(tolerance: &str) -> Result<Self, Failure> {
+        if tolerance == "-" {
+            return Ok(Single::walk());
+        }
+        let Told(tolerance) = tolerance.parse::<Told<f32>>()?;
+        Ok(Single::new(tolerance)?)
+    }
+}
+
 /// A value as the vectors write it.
-#[derive(Clone, Copy)]
+#[derive(Clone, Copy, PartialEq, Debug)]
 pub(crate) struct Told<T>(pub(crate) T);
 
 impl FromStr for Told<i32> {
@@ -39,17 +61,10 @@ impl FromStr for Told<f32> {
     }
 }
 
-impl FromStr for Told<WholePair> {
-    type Err = Failure;
-
-    fn from_str(text: &str) -> Result<Self, Failure> {
-        let (x, y) = text.split_once(",").ok_or(Failure::Unreadable)?;
-        let (Told(x), Told(y)) = (x.parse()?, y.parse()?);
-        Ok(Told(WholePair { x, y }))
-    }
-}
-
-impl FromStr for Told<Pair> {
+impl<N: Copy> FromStr for Told<Pair<N>>
+where
+    Told<N>: FromStr<Err = Failure>,
+{
     type Err = Failure;
 
     fn from_str(text: &str) -> Result<Self, Failure> {
@@ -74,71 +89,28 @@ where
 
 impl fmt::Display for Told<Fraction> {
     fn fmt<W: fmt::Write>(&self, f: &mut fmt::Formatter<W>) -> fmt::Result {
-        match self.0 {
-            Fraction::Start => f.write_str("s"),
-            Fraction::Inside { upper, lower } => write!(f, "i{upper}/{lower}"),
-            Fraction::End => f.write_str("e"),
-        }
+        let Told(Fraction { upper, lower }) = self;
+        write!(f, "{upper}/{lower}")
     }
 }
 
 impl fmt::Display for Told<Weights> {
     fn fmt<W: fmt::Write>(&self, f: &mut fmt::Formatter<W>) -> fmt::Result {
+        let before = f32_to_bits_with_nan(self.0.before);
+        let behind = f32_to_bits_with_nan(self.0.behind);
+        write!(f, "{before:08x},{behind:08x}")
+    }
+}
+
+impl<P: Copy> fmt::Display for Told<Mark<P>>
+where
+    Told<P>: fmt::Display,
+{
+    fn fmt<W: fmt::Write>(&self, f: &mut fmt::Formatter<W>) -> fmt::Result {
         match self.0 {
-            Weights::Start => f.write_str("s"),
-            Weights::Inside(before, behind) => {
-                let before = f32_to_bits_with_nan(before);
-                let behind = f32_to_bits_with_nan(behind);
-                write!(f, "i{before:08x},{behind:08x}")
-            }
-            Weights::End => f.write_str("e"),
+            Mark::Start => f.write_str("s"),
+            Mark::Inside(part) => write!(f, "i{}", Told(part)),
+            Mark::End => f.write_str("e"),
         }
-    }
-}
-
-/// An arithmetic that the vectors ask.
-pub(crate) trait Written: Arithmetic + Copy {
-    /// The arithmetic with the tolerance of this text.
-    fn with(tolerance: &str) -> Result<Self, Failure>;
-
-    /// Whether a corner lies inside a ring.
-    fn inside(&self, p: Self::Corner, ring: &[Self::Raw]) -> Result<bool, Failure>;
-}
-
-// Whatever is told as tolerance, it is 0.
-impl Written for Decimetre {
-    fn with(_tolerance: &str) -> Result<Self, Failure> {
-        Ok(Decimetre)
-    }
-
-    fn inside(&self, p: Whole, ring: &[WholePair]) -> Result<bool, Failure> {
-        let mut places = [p; 1024];
-        let mut store = &mut places[0..1024];
-        let mut outline = DecimetreOutline::empty();
-        check::<Decimetre, DecimetreOutline>(ring, &mut store, &mut outline).map_err(
-            |_| Failure::Unreadable,
-        )?;
-        Ok(point_in_poly2d(self, p, &outline))
-    }
-}
-
-// A dash is the walk's tolerance.
-impl Written for Single {
-    fn with(tolerance: &str) -> Result<Self, Failure> {
-        if tolerance == "-" {
-            return Ok(Single::walk());
-        }
-        let Told(tolerance) = tolerance.parse()?;
-        Ok(Single::new(tolerance)?)
-    }
-
-    fn inside(&self, p: Corner, ring: &[Pair]) -> Result<bool, Failure> {
-        let mut places = [p; 1024];
-        let mut store = &mut places[0..1024];
-        let mut outline = SingleOutline::empty();
-        check::<Single, SingleOutline>(ring, &mut store, &mut outline).map_err(
-            |_| Failure::Unreadable,
-        )?;
-        Ok(point_in_poly2d(self, p, &outline))
     }
 }

@@ -36,7 +36,7 @@ pub struct Weights {
 /// A position on an edge.
 pub type Mark = mark::Mark<Weights>;
 
-/// A point.
+/// A point; unlike a corner it is never admitted.
 #[derive(Clone, Copy, PartialEq, Debug)]
 pub struct Point {
     pub x: f32,

@@ -1,6 +1,6 @@
 -- The chart of two rings is sound, and its crossings are in order along each edge. Assumes nothing.
 use Rattle.std.proofs.Common.{◌≡◌, ℕ, zero, suc, ◌+◌, ◌<◌, ◌≤◌, true, false, ◌⊎◌, List, [], ◌∷◌, ◌++◌, length, Some, None, Option, sym, refl, ◌∙◌, subst, ap₂, inl, inr, ⊎_elim, arith}
-use Rattle.std.specs.List.{AllByRecursion as All, slice_get, cons_option, filter_map, flat_map, enumerate_from}
+use Rattle.std.specs.List.{AllByRecursion, slice_get, cons_option, filter_map, flat_map, enumerate_from}
 use Rattle.plane.specs.declared.answer.Meet.{Meet}
 use Rattle.plane.specs.declared.answer.Meet.TheVariants.{Apart, Crossing, Overlap}
 use Rattle.plane.specs.declared.ring.Ring.{Ring}
@@ -19,16 +19,16 @@ use Rattle.chart.specs.Records.{on, leaving_side, record_by, record_at, records_
 use Rattle.chart.specs.Words.{count}
 use Rattle.chart.proofs.Along.{along_has, along_all, along_once, along_ordered}
 
-all_both : {X : Type 0} (P : X → Type 0) (xs ys : List X) → All P xs → All P ys → All P (xs ++ ys)
+all_both : {X : Type 0} (P : X → Type 0) (xs ys : List X) → AllByRecursion P xs → AllByRecursion P ys → AllByRecursion P (xs ++ ys)
 all_both P [] ys a b = b
 all_both P (x ∷ xs) ys a b = (a.0, all_both P xs ys a.1 b)
 
-all_more : {X : Type 0} (P : X → Type 0) (o : Option X) (xs : List X) → ((x : X) → o ≡ Some x → P x) → All P xs → All P (cons_option o xs)
+all_more : {X : Type 0} (P : X → Type 0) (o : Option X) (xs : List X) → ((x : X) → o ≡ Some x → P x) → AllByRecursion P xs → AllByRecursion P (cons_option o xs)
 all_more P None xs p a = a
 all_more P (Some x) xs p a = (p x refl, a)
 
 -- what holds of each record holds of the one at an index
-at_all : {X : Type 0} (P : X → Type 0) (xs : List X) (k : ℕ) → All P xs → k < length xs → (x : X) × (slice_get xs k ≡ Some x) × P x
+at_all : {X : Type 0} (P : X → Type 0) (xs : List X) (k : ℕ) → AllByRecursion P xs → k < length xs → (x : X) × (slice_get xs k ≡ Some x) × P x
 at_all P [] k a h = absurd (omega arith)
 at_all P (x ∷ xs) zero a h = (x, refl, a.0)
 at_all P (x ∷ xs) (suc k) a h = at_all P xs k a.1 (omega arith)
@@ -46,16 +46,16 @@ module _ {S R C M P : Type 0} (meaning : Meaning S R C M P) (a : S) where
       let same : record { one = record { edge = i; mark = p }; two = record { edge = j; mark = q }; leaving = leaving_side meaning a e f } ≡ c = cc in
       subst (Fine n m) same (hi, hj, given p (inl refl), given q (inr refl))
 
-  fine_on : (n m i j : ℕ) (e : Edge C) (fs : List (Edge C)) → i < n → j + length fs ≤ m → All (Fine n m) (filter_map (record_at meaning a (i, e)) (enumerate_from j fs))
+  fine_on : (n m i j : ℕ) (e : Edge C) (fs : List (Edge C)) → i < n → j + length fs ≤ m → AllByRecursion (Fine n m) (filter_map (record_at meaning a (i, e)) (enumerate_from j fs))
   fine_on n m i j e [] hi hj = tt
   fine_on n m i j e (f ∷ fs) hi hj =
       all_more (Fine n m) (record_at meaning a (i, e) (j, f)) (filter_map (record_at meaning a (i, e)) (enumerate_from (j + 1) fs)) (fine_by n m i j e f (meeting meaning a e f) hi (omega arith) refl) (fine_on n m i (j + 1) e fs hi (omega arith))
 
-  fine_from : (n m i : ℕ) (es : List (Edge C)) (two : List C) → i + length es ≤ n → length two ≤ m → All (Fine n m) (flat_map (records_on meaning a two) (enumerate_from i es))
+  fine_from : (n m i : ℕ) (es : List (Edge C)) (two : List C) → i + length es ≤ n → length two ≤ m → AllByRecursion (Fine n m) (flat_map (records_on meaning a two) (enumerate_from i es))
   fine_from n m i [] two hi hj = tt
   fine_from n m i (e ∷ es) two hi hj = all_both (Fine n m) (records_on meaning a two (i, e)) (flat_map (records_on meaning a two) (enumerate_from (i + 1) es)) (fine_on n m i 0 e (edges two) (omega arith) (omega (arith, length-edges two, hj))) (fine_from n m (i + 1) es two (omega arith) hj)
 
-  fine : (one two : List C) → All (Fine (length one) (length two)) (records_of meaning a one two)
+  fine : (one two : List C) → AllByRecursion (Fine (length one) (length two)) (records_of meaning a one two)
   fine one two = fine_from (length one) (length two) 0 (edges one) two (omega (arith, length-edges one)) (omega arith)
 
   -- each crossing lies on an edge that its ring has

@@ -25,22 +25,22 @@ module _ {M : Type 0} (ws : List ℕ) (k : ℕ) (c : Record M) where
 
   -- nothing else is written
   pub described_other : (i : ℕ) → (i ≡ k + 2 → ⊥) → (i ≡ k + 3 → ⊥) → (i ≡ k + 4 → ⊥) → (i ≡ k + 5 → ⊥) → get_or (described ws k c) i 0 ≡ get_or ws i 0
-  described_other i n2 n3 n4 n5 = get_or-set_other _ (k + 5) i _ 0 n5 ∙ get_or-set_other _ (k + 4) i _ 0 n4 ∙ get_or-set_other _ (k + 3) i _ 0 n3 ∙ get_or-set_other ws (k + 2) i _ 0 n2
+  described_other i n2 n3 n4 n5 = grind (arith, get_or-set_other, get_or-set_same, length-set)
 
   pub described_rest : drop (k + 6) (described ws k c) ≡ drop (k + 6) ws
-  described_rest = drop-set-lt (k + 6) _ (k + 5) _ (omega arith) ∙ drop-set-lt (k + 6) _ (k + 4) _ (omega arith) ∙ drop-set-lt (k + 6) _ (k + 3) _ (omega arith) ∙ drop-set-lt (k + 6) ws (k + 2) _ (omega arith)
+  described_rest = grind (arith, drop-set-lt)
 
   pub described_2 : k + 6 ≤ length ws → get_or (described ws k c) (k + 2) 0 ≡ c.one.edge
-  described_2 room = get_or-set_other _ (k + 5) (k + 2) _ 0 (omega arith) ∙ get_or-set_other _ (k + 4) (k + 2) _ 0 (omega arith) ∙ get_or-set_other _ (k + 3) (k + 2) _ 0 (omega arith) ∙ get_or-set_same ws (k + 2) _ 0 (omega arith)
+  described_2 room = grind (arith, get_or-set_other, get_or-set_same, length-set)
 
   pub described_3 : k + 6 ≤ length ws → get_or (described ws k c) (k + 3) 0 ≡ c.two.edge
-  described_3 room = get_or-set_other _ (k + 5) (k + 3) _ 0 (omega arith) ∙ get_or-set_other _ (k + 4) (k + 3) _ 0 (omega arith) ∙ get_or-set_same w2 (k + 3) c.two.edge 0 (omega (arith, length-set ws (k + 2) c.one.edge))
+  described_3 room = grind (arith, get_or-set_other, get_or-set_same, length-set)
 
   pub described_4 : k + 6 ≤ length ws → get_or (described ws k c) (k + 4) 0 ≡ side_word c.leaving
-  described_4 room = get_or-set_other _ (k + 5) (k + 4) _ 0 (omega arith) ∙ get_or-set_same w3 (k + 4) (side_word c.leaving) 0 (omega (arith, length-set ws (k + 2) c.one.edge, length-set w2 (k + 3) c.two.edge))
+  described_4 room = grind (arith, get_or-set_other, get_or-set_same, length-set)
 
   pub described_5 : k + 6 ≤ length ws → get_or (described ws k c) (k + 5) 0 ≡ 0
-  described_5 room = get_or-set_same w4 (k + 5) 0 0 (omega (arith, length-set ws (k + 2) c.one.edge, length-set w2 (k + 3) c.two.edge, length-set w3 (k + 4) (side_word c.leaving)))
+  described_5 room = grind (arith, get_or-set_other, get_or-set_same, length-set)
 
 module _ {M : Type 0} (n : Corners) (cs : List (Record M)) (id : ℕ) where
   -- the writing of pointers keeps them
@@ -79,9 +79,6 @@ module _ {M : Type 0} (n : Corners) (cs : List (Record M)) (id : ℕ) where
         side = each 4 (λ x. side_word (leaving_at cs x)) (omega arith) (omega arith) (described_4 ws k c room ∙ ap side_word (leaving_read cs id c h e)) d.side;
         waiting = each 5 (λ x. 0) (omega arith) (omega arith) (described_5 ws k c room) d.waiting;
       }
-
-  pub described_none : (ws : List ℕ) → Described n cs 0 ws
-  described_none ws = record { edge_one = λ x h. absurd (omega arith); edge_two = λ x h. absurd (omega arith); side = λ x h. absurd (omega arith); waiting = λ x h. absurd (omega arith) }
 
   -- both chains and the other words
   pub chained_more : (le : M → M → Bool) (ws ws' : List ℕ) (c : Record M) → n.one + n.two + 6 * id + 6 ≤ length ws → id < length cs → c ≡ get_or cs id c → ws' ≡ described ws (n.one + n.two + 6 * id) c

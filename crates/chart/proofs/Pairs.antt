@@ -7,6 +7,7 @@ use Rattle.plane.specs.Meaning.{Meaning}
 use Rattle.plane.specs.Outlines.{most_corners}
 use Rattle.plane.specs.Rings.{edges}
 use Rattle.plane.proofs.Edges.{length-edges}
+use Rattle.chart.specs.declared.layout.Corners.{Corners}
 use Rattle.chart.specs.Crossings.{pairs, crosses, crossings}
 
 module _ {X Y : Type 0} (test : X → Y → Bool) where
@@ -38,6 +39,6 @@ module _ {S R C M P : Type 0} (meaning : Meaning S R C M P) (a : S) (one two : L
   by_edge = count_by-pairs (crosses meaning a) (edges one) (edges two)
 
   -- short rings have few crossings
-  pub few_crossings : length one ≤ most_corners → length two ≤ most_corners → crossings meaning a one two ≤ most_corners * most_corners
-  few_crossings h k =
-      omega (arith, few_pairs (crosses meaning a) (edges one) (edges two) (omega (arith, length-edges two, k)), length-edges one)
+  pub few_crossings : (n : Corners) → n ≡ record { one = length one; two = length two } → (n.one ≤ most_corners) × (n.two ≤ most_corners) → crossings meaning a one two ≤ most_corners * most_corners
+  few_crossings n is few =
+      omega (arith, few_pairs (crosses meaning a) (edges one) (edges two) (omega (arith, length-edges two, ap (λ n. n.two) is, few.1)), length-edges one, ap (λ n. n.one) is, few.0)

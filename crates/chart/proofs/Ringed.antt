@@ -80,11 +80,6 @@ pub each_ring : (P : Ring → Type 0) → P One → P Two → (ring : Ring) → 
 each_ring P a b One = a
 each_ring P a b Two = b
 
--- where every edge is without a crossing
-pub linked_none : {M : Type 0} (le : M → M → Bool) (corners : Corners) (cs : List (Record M)) (ws : List ℕ) → ((k : ℕ) → k < corners.one + corners.two → get_or ws k 0 ≡ 4294967295) → (ring : Ring) → Linked le corners cs ring 0 ws
-linked_none le corners cs ws none One e h = none (0 + e) (omega arith)
-linked_none le corners cs ws none Two e h = none (corners.one + e) (omega arith)
-
 pub low_base : (ring : Ring) (n : Corners) → base ring n ≤ n.one + n.two + 1
 low_base One n = omega arith
 low_base Two n = omega arith

@@ -44,14 +44,3 @@ pub walked_stop : (goes : ℕ → ℕ → Bool) (ws : List ℕ) (base id slot at
 walked_stop goes ws base id slot at turn g w list h b n =
     let r = w list h b n in
     stop goes ws base id slot at turn list r.0 g r.1 r.2 r.4
-
-all : (goes : ℕ → ℕ → Bool) (base id slot at : ℕ) (list rest : List ℕ) → id + length rest ≤ id → spot goes base id slot list ≡ spot goes base id at rest → at ≡ spot goes base id slot list
-all goes base id slot at list [] n s = sym s
-all goes base id slot at list (z ∷ zs) n s = absurd (omega arith)
-
--- the walk has come by as many as there can be
-pub walked_all : (goes : ℕ → ℕ → Bool) (ws : List ℕ) (base id slot at turn : ℕ) → id ≤ turn → Walked goes ws base id slot at turn
-    → (list : List ℕ) → Links ws base slot list → Below id list → length list ≤ id → at ≡ spot goes base id slot list
-walked_all goes ws base id slot at turn e w list h b n =
-    let r = w list h b n in
-    all goes base id slot at list r.0 (omega (arith, r.3)) r.4

@@ -18,14 +18,14 @@ fn crossing<K: Arithmetic>(
 ) -> Option<Record<K::Mark>>
     ensures { result ≡ record_at K.Arithmetic.meaning arith.now (i, e) (j, f) }
 {
-    let Meet::Crossing(m, n) = arith.meet(e.from, e.to, f.from, f.to) else {
-        return None;
-    };
-    Some(Record {
-        one: Spot { edge: i, mark: m },
-        two: Spot { edge: j, mark: n },
-        leaving: leaving(arith, e, f),
-    })
+    match arith.meet(e.from, e.to, f.from, f.to) {
+        Meet::Crossing(m, n) => Some(Record {
+            one: Spot { edge: i, mark: m },
+            two: Spot { edge: j, mark: n },
+            leaving: leaving(arith, e, f),
+        }),
+        _ => None,
+    }
 }
 
 /// Writes down the crossings of ring one with ring two, by the edge of ring one, then by that of ring two.

@@ -33,30 +33,6 @@ fn refuse(corners: Corners, found: usize, records: usize, words: usize) -> Resul
     Ok(())
 }
 
-// Writes the records and the words of two outlines that have so many crossings.
-fn tabulate<K: Arithmetic>(
-    arith: &K,
-    one: &Outline<K>,
-    two: &Outline<K>,
-    records: &mut [Record<K::Mark>],
-    words: &mut [u32],
-    found: usize,
-)
-    requires all { found ≡ crossings K.Arithmetic.meaning arith.now one.now two.now }
-    requires fits { (found ≤ length records.old) × (6 * found + length one.now + length two.now + 8 ≤ length words.old) }
-    ensures written { records.new ≡ records_of K.Arithmetic.meaning arith.now one.now two.now ++ drop found records.old }
-    ensures told { ToldBy words.new (chart_of K.Arithmetic.meaning arith.now one.now two.now) }
-    ensures rest { drop (6 * found + length one.now + length two.now) words.new ≡ drop (6 * found + length one.now + length two.now) words.old }
-{
-    fill(arith, one, two, records);
-    let chains = Chains {
-        arith,
-        records: &records[..found],
-        corners: Corners::of(one, two),
-    };
-    chains.chain_all(words);
-}
-
 /// Writes down the crossings of two outlines, and tells in words how they stand along the edges of either. Answers how many there are.
 /// A refusal leaves the records and the words as they were.
 pub fn compute_sorted_edge_intersections<K: Arithmetic>(
@@ -76,7 +52,13 @@ pub fn compute_sorted_edge_intersections<K: Arithmetic>(
     let corners = Corners::of(one, two);
     let found = count(arith, one, two);
     refuse(corners, found, records.len(), words.len())?;
-    tabulate(arith, one, two, records, words, found);
+    fill(arith, one, two, records);
+    let chains = Chains {
+        arith,
+        records: &records[..found],
+        corners,
+    };
+    chains.chain_all(words);
     Ok(found)
 }
 

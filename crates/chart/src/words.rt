@@ -1,4 +1,4 @@
-// The words that tell a chart.
+// The words that tell a chart. They are numbers, since the tables that hold them are lent by the caller.
 ghost use Rattle.std.specs.Prelude.{◌≡◌};
 ghost use Rattle.chart.specs.Words.{side_word};
 

@@ -20,9 +20,6 @@ pub fn is_near(c: Corner) -> bool
 pub fn admitted(pair: Pair) -> Option<Corner>
     ensures { result ≡ the_admitted pair }
 {
-    let corner = Corner {
-        x: pair.x,
-        y: pair.y,
-    };
+    let corner = Corner::from(pair);
     is_near(corner).then_some(corner)
 }

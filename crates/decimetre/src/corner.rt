@@ -1,4 +1,6 @@
 // What the exact arithmetic works on.
+ghost use Rattle.std.specs.Prelude.{◌≡◌};
+ghost use Rattle.decimetre.specs.Exact.{corner_of};
 
 /// The exact arithmetic, in whole decimetres. Its tolerance is 0.
 #[derive(Clone, Copy, PartialEq, Eq, Debug)]
@@ -8,10 +10,22 @@ pub struct Decimetre;
 pub type Pair = plane::pair::Pair<i32>;
 
 /// A corner. Those within 16,384 of the origin on each axis are admitted.
+// Not one type over any number, as `Pair` is, since an impl of `-` on corners, or of `near`, has to stand where the type is declared.
 #[derive(Clone, Copy, PartialEq, Eq, Debug)]
 pub struct Corner {
     pub x: i32,
     pub y: i32,
+}
+
+impl From<Pair> for Corner {
+    ghost from_gives = { λ p c. c ≡ corner_of p };
+
+    fn from(pair: Pair) -> Self {
+        Corner {
+            x: pair.x,
+            y: pair.y,
+        }
+    }
 }
 
 /// The part of an edge that lies before a mark, not reduced.

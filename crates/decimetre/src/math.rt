@@ -78,6 +78,8 @@ impl Vector2 {
     ghost use Rattle.std.specs.Prelude.{◌≡◌};
     ghost use Rattle.decimetre.specs.Vectors.{perp_dot, dot_of};
 
+    // These products stand in single precision too: shared, their contracts would say of each `*` and `-` that it may be made and what it gives.
+
     /// Above 0 where the other vector lies to the left of this one.
     pub(crate) fn perp_dot(self, other: Vector2) -> Measure
         ensures { result ≡ perp_dot self other }

@@ -12,7 +12,8 @@ use plane::answer::{Meet, Side};
 use plane::mark::overlap;
 use std::cmp::Ordering;
 
-// The denominator of the places on both edges: 0 where the edges are parallel.
+// The denominator of the places on both edges: 0 where the edges are parallel. These two formulas are those of single precision, in the source's
+// order of terms: shared, their contracts would say of each `*`, `+` and `-` that it may be made and what it gives.
 fn denom_of(a: NearCorner, b: NearCorner, c: NearCorner, d: NearCorner) -> Measure
     ensures { result ≡ denom a b c d }
 {
@@ -87,7 +88,7 @@ fn between(a: NearCorner, b: NearCorner, c: NearCorner) -> Option<Mark>
     }
 }
 
-// How two parallel edges meet: apart unless c is level with ab.
+// How two parallel edges meet: apart unless c is level with ab. Shared with single precision, it would be handed the level test and `between`, and be no shorter.
 fn parallel_intersection(a: NearCorner, b: NearCorner, c: NearCorner, d: NearCorner) -> Meet<Mark>
     ensures { result ≡ parallel a b c d }
 {

@@ -52,7 +52,7 @@ impl Arithmetic for Single {
     }
 
     fn end_of(&self, m: Mark) -> Option<End> {
-        order::end_of(m)
+        m.end()
     }
 
     fn point_at(&self, a: Corner, b: Corner, m: Mark) -> Point {

@@ -22,6 +22,8 @@ impl Sub<Corner> for Corner {
 }
 
 impl Corner {
+    // These products stand in the exact arithmetic too: shared, their contracts would say of each `*` and `-` that it may be made and what it gives.
+
     /// Above 0 where the other vector lies to the left of this one.
     pub(crate) fn perp_dot(self, other: Corner) -> f32
         ensures { result ≡ perp_dot self other }

@@ -1,11 +1,9 @@
 // Where marks stand on their edge.
 ghost use Rattle.std.specs.Prelude.{◌≡◌};
-ghost use Rattle.plane.specs.Marks.{end_of};
 ghost use Rattle.single.specs.Marks.{not_after};
 
 use crate::corner::Mark;
 use crate::segment::centered_bcoords;
-use plane::answer::End;
 
 /// Whether m stands before n or level with it, as marks of one edge; not-a-number comes last and is level with itself.
 pub fn not_after(m: Mark, n: Mark) -> bool
@@ -13,11 +11,4 @@ pub fn not_after(m: Mark, n: Mark) -> bool
 {
     let (m, n) = (centered_bcoords(m), centered_bcoords(n));
     n.is_nan() || m <= n
-}
-
-/// The end of its edge at which a mark stands, if it stands at one.
-pub fn end_of(m: Mark) -> Option<End>
-    ensures { result ≡ end_of m }
-{
-    m.end()
 }

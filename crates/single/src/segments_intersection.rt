@@ -34,7 +34,8 @@ pub fn segments_intersection2d(
     }
 }
 
-// What the places on both edges are divided by.
+// What the places on both edges are divided by. These two formulas are those of the exact arithmetic, in the source's order of terms: shared,
+// their contracts would say of each `*`, `+` and `-` that it may be made and what it gives.
 fn denom_of(a: Corner, b: Corner, c: Corner, d: Corner) -> f32
     ensures { result ≡ denom_of a b c d }
 {
@@ -55,7 +56,8 @@ fn is_parallel(denom: f32, epsilon: f32) -> bool
     denom.abs() < epsilon || denom.abs() <= f32::EPSILON
 }
 
-// How parallel edges meet: apart where c is not level with the edge from a to b.
+// How parallel edges meet: apart where c is not level with the edge from a to b. Shared with the exact arithmetic, it would be handed the level test
+// and `between`, and be no shorter.
 fn parallel_intersection(a: Corner, b: Corner, c: Corner, d: Corner, epsilon: f32) -> Meet<Mark>
     ensures { result ≡ parallel_of a b c d epsilon }
 {

@@ -6,6 +6,7 @@ use crate::answer::{End, Meet, Side};
 
 /// An arithmetic brings its own kinds of raw pair, corner, mark (a position on an edge) and point.
 /// Its value carries its tolerance. Asking alters nothing, and no question is refused.
+// An edge is asked about by its two corners: handed over as an `Edge<Self::Corner>`, each impl would have to write the clauses below once more.
 pub trait Arithmetic: Sized {
     type Raw: Copy;
 

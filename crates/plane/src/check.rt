@@ -30,7 +30,7 @@ fn refuse<K: Arithmetic>(raw: &[K::Raw], places: usize) -> Result<(), Refusal>
     Ok(())
 }
 
-// Writes the corner of each pair into the place of its index.
+// Writes the corner of each pair into the place of its index. By index, since nothing is known of places after an iterator has lent them.
 fn fill<K: Arithmetic>(raw: &[K::Raw], places: &mut [K::Corner])
     requires same { length places.old ≡ length raw.now }
     requires fine { first_wild K.Arithmetic.meaning raw.now ≡ None }

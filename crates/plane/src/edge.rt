@@ -11,7 +11,7 @@ pub struct Edge<C> {
     pub to: C,
 }
 
-/// The edges of a ring that are still to come.
+/// The edges of a ring that are still to come. An iterator with a name, since a chain that a function returns as `impl Iterator` has no proof yet.
 #[derive(Drop)]
 pub struct Edges<'a, C> {
     ring: &'a [C],

@@ -1,4 +1,4 @@
-// The plane that outlines lie in: refusals, what an arithmetic answers, checked outlines, and the inside test.
+// The plane that outlines lie in: refusals, what an arithmetic answers, raw pairs, edges and marks, checked outlines, and the inside test.
 #![tactic(auto)]
 
 pub mod answer;

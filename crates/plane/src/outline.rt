@@ -1,5 +1,5 @@
 // Outlines that have been checked.
-ghost use Rattle.std.specs.Prelude.{◌≡◌, ◌≤◌, List, [], length};
+ghost use Rattle.std.specs.Prelude.{◌≡◌, ◌≤◌, List, length};
 ghost use Rattle.std.specs.List.{AllByRecursion};
 ghost use Rattle.plane.specs.Meaning.{Admitted};
 ghost use Rattle.plane.specs.Outlines.{most_corners};
@@ -35,13 +35,6 @@ impl<'a, K: Arithmetic> Outline<'a, K> {
         ensures { result ≡ corners.now }
     {
         Outline { corners }
-    }
-
-    /// An outline without corners.
-    pub fn empty() -> Self
-        ensures { result ≡ [] }
-    {
-        Outline { corners: &[] }
     }
 
     /// Its edges, in order.

@@ -36,6 +36,7 @@ pub enum Refusal {
     CutShort(usize),
 }
 
+// Number and place are two numbers, since so they are printed and handed on.
 impl Refusal {
     /// The refusal's number, as it is printed.
     pub fn number(self) -> u8

@@ -4,7 +4,6 @@ use crate::segments_intersection::segments_intersection2d;
 use crate::tolerance::Single;
 use plane::answer::Meet;
 use plane::check;
-use plane::outline::Outline;
 use plane::refusal::Refusal;
 
 fn corner(x: f32, y: f32) -> Corner {
@@ -49,5 +48,6 @@ fn what_is_no_number_is_refused(rt: HostRuntime) {
     let answer = check::check::<Single>(&pairs, &mut store);
     assert_eq!(rt; answer.err(), Some(Refusal::NotAdmitted(1)));
     assert_eq!(rt; store.len(), 2);
-    assert_eq!(rt; Outline::<Single>::empty().corners().len(), 0);
+    let none = check::check::<Single>(&pairs[..0], &mut store);
+    assert!(rt; none.is_ok_and(|ring| ring.corners().len() == 0));
 }

@@ -31,7 +31,7 @@ pub record FiniteParts (a b c d : Corner) : Type 0 where
   pub num1 : float_is_finite (num1_of a c d) ≡ true
   pub num2 : float_is_finite (num2_of a b c) ≡ true
 
--- the weights of an inside mark: s is above 0 and below 1, and the other is 1 less s, from 0 to 1
+-- the weights of an inside mark: the one behind is above 0 and below 1, and the one before is 1 less it, from 0 to 1
 pub record SaneWeights (w : Weights) : Type 0 where
   pub above : T (lt nought w.behind)
   pub below : T (lt w.behind unit)

@@ -9,6 +9,7 @@ use crate::corner::{Corner, Pair};
 /// The farthest that a corner may lie from the origin, on each axis: 2^59.
 pub const FARTHEST: f32 = 576460752303423488.0;
 
+// By two comparisons: of what a range of floats contains the check finds no proof.
 fn within_reach(v: f32) -> bool
     ensures { result ≡ in_reach v }
 {

@@ -27,7 +27,7 @@ impl From<Pair> for Corner {
     }
 }
 
-/// The weights of an edge's two corners at a position inside it: 1 - s and s.
+/// The weights of an edge's two corners at a position inside it: 1 - s on the corner before it, and s on the one behind.
 #[derive(Clone, Copy, PartialEq, Debug)]
 pub struct Weights {
     pub before: f32,
@@ -37,7 +37,7 @@ pub struct Weights {
 /// A position on an edge.
 pub type Mark = mark::Mark<Weights>;
 
-/// A point; unlike a corner it is never admitted.
+/// A point. What is told is kept apart from the pairs and corners that are asked about, so that neither passes for the other.
 #[derive(Clone, Copy, PartialEq, Debug)]
 pub struct Point {
     pub x: f32,

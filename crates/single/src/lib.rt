@@ -1,4 +1,5 @@
-// Single-precision arithmetic: every operation rounds once.
+// Single-precision arithmetic: every operation rounds once. Functions that have a name in common with the exact arithmetic have it from the source;
+// they differ in more than the numbers: a tolerance and rounding here, there corners that are not near, and bounds.
 #![tactic(auto)]
 
 pub mod admit;

@@ -5,6 +5,7 @@ ghost use Rattle.single.specs.Marks.{not_after};
 use crate::corner::Mark;
 use crate::segment::centered_bcoords;
 
+// No derived order: not-a-number is level with itself here.
 /// Whether m stands before n or level with it, as marks of one edge; not-a-number comes last and is level with itself.
 pub fn not_after(m: Mark, n: Mark) -> bool
     ensures { result ≡ not_after m n }

@@ -56,8 +56,8 @@ fn is_parallel(denom: f32, epsilon: f32) -> bool
     denom.abs() < epsilon || denom.abs() <= f32::EPSILON
 }
 
-// How parallel edges meet: apart where c is not level with the edge from a to b. Shared with the exact arithmetic, it would be handed the level test
-// and `between`, and be no shorter.
+// How parallel edges meet: apart where c is not level with the edge from a to b. It has its name in either arithmetic, as
+// in the source; shared, it would be handed the level test and `between` as closures.
 fn parallel_intersection(a: Corner, b: Corner, c: Corner, d: Corner, epsilon: f32) -> Meet<Mark>
     ensures { result ≡ parallel_of a b c d epsilon }
 {

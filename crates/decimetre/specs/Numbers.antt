@@ -1,11 +1,12 @@
 -- Which number a signed value of the code is, and how large. Assumes nothing.
 use Rattle.std.specs.Prelude.{◌≡◌, ℕ, zero, suc, ◌+◌, ◌*◌, ◌^◌, ◌<◌, ◌≤◌, true, false, ◌⊎◌, ℤ, pos, negsuc, ◌+ℤ◌, ◌-ℤ◌, ◌*ℤ◌, neg_ℤ, FitsSigned, ◌==◌, ◌≢◌, nat_eq, unsigned_abs, refl}
 use Rattle.std.proofs.Common.{sym, ap, ap₂, subst, ◌∙◌, inl, inr, arith, mul-le-mul, le_trans, lit≤, to_z, of_z}
-use Rattle.std.specs.Int.{w16, w64}
+use Rattle.std.proofs.Math.IntN.{+ℤ_idl}
+use Rattle.std.specs.Int.{w16, w32, w64}
 use Rattle.std.proofs.lemmas.Int.{ints, to_z-of_z, to_z_pos}
 use Rattle.decimetre.specs.declared.corner.Corner.{Corner}
 use Rattle.decimetre.specs.declared.math.Vector2.{Vector2}
-use Rattle.decimetre.specs.Exact.{denom}
+use Rattle.decimetre.specs.Exact.{denom, Near}
 use Rattle.decimetre.specs.Vectors.{Leads, Wide, num_of}
 
 -- the sign of a product does not change its size
@@ -50,13 +51,29 @@ pub whole : (n : ℕ) → n < 2 ^ 32 → Reads (2 ^ 32) (to_z w64 n) (pos n)
 whole n h = record { is = to_z_pos w64 n (omega arith); bound = omega arith }
 
 -- a number of 16 bits, as it is passed on, and widened
-pub narrow : (z : ℤ) → FitsSigned w16 z → to_z w16 (of_z w16 z) ≡ z
-narrow z h = to_z-of_z w16 z h
+pub narrow16 : (z : ℤ) → FitsSigned w16 z → to_z w16 (of_z w16 z) ≡ z
+narrow16 z h = to_z-of_z w16 z h
 
-pub coordinate : (z : ℤ) → FitsSigned w16 z → Reads 32768 (b64 (to_z w16 (of_z w16 z))) z
-coordinate z h =
+pub coordinate16 : (z : ℤ) → FitsSigned w16 z → Reads 32768 (b64 (to_z w16 (of_z w16 z))) z
+coordinate16 z h =
     let small : unsigned_abs z ≤ 32768 = omega (arith, ints) in
-    record { is = ap b64 (narrow z h) ∙ back_64 z (le_trans small (lit≤ tt)); bound = small }
+    record { is = ap b64 (narrow16 z h) ∙ back_64 z (le_trans small (lit≤ tt)); bound = small }
+
+-- a coordinate of a near corner, as it is passed on, and widened
+pub narrow : (z : ℤ) → unsigned_abs z ≤ 16384 → to_z w32 (of_z w32 z) ≡ z
+narrow z h = to_z-of_z w32 z (omega (arith, ints))
+
+pub narrow_size : (z : ℤ) → unsigned_abs z ≤ 16384 → unsigned_abs (to_z w32 (of_z w32 z)) ≤ 16384
+narrow_size z h = rw (narrow z h) h
+
+pub coordinate : (z : ℤ) → unsigned_abs z ≤ 16384 → Reads 16384 (b64 (to_z w32 (of_z w32 z))) z
+coordinate z h = record { is = ap b64 (narrow z h) ∙ back_64 z (le_trans h (lit≤ tt)); bound = h }
+
+pub corner_x : (c : Corner) → Near c → Reads 16384 (b64 (to_z w32 (of_z w32 c.x))) c.x
+corner_x c h = coordinate c.x h.0
+
+pub corner_y : (c : Corner) → Near c → Reads 16384 (b64 (to_z w32 (of_z w32 c.y))) c.y
+corner_y c h = coordinate c.y h.1
 
 -- a coordinate of a vector
 pub vector_x : (v : Vector2) → Reads 32768 (b64 v.x) v.x
@@ -97,6 +114,14 @@ module _ {m n : ℕ} {v w a b : ℤ} (p : Reads m v a) (q : Reads n w b) where
       let h = product_bound a b m n p.bound q.bound in
       record { is = ap b64 (ap₂ ◌*ℤ◌ p.is q.is) ∙ back_64 (a *ℤ b) (le_trans h k); bound = h }
 
+pub negated_fits : {n : ℕ} {v z : ℤ} → Reads n v z → n ≤ 2 ^ 61 → FitsSigned w64 (pos 0 -ℤ v)
+negated_fits {z = z} p k = rw p.is (fits_64 (pos 0 -ℤ z) (omega (arith, ints, p.bound)))
+
+pub negated : {n : ℕ} {v z : ℤ} → Reads n v z → n ≤ 2 ^ 62 → Reads n (b64 (pos 0 -ℤ v)) (neg_ℤ z)
+negated {n} {v} {z} p k =
+    let h : unsigned_abs (neg_ℤ z) ≤ n = omega (arith, ints, p.bound) in
+    record { is = ap (λ y. b64 (pos 0 -ℤ y)) p.is ∙ ap b64 (+ℤ_idl (neg_ℤ z)) ∙ back_64 (neg_ℤ z) (le_trans h k); bound = h }
+
 -- the bound, of the value
 pub bound_of : {n : ℕ} {v z : ℤ} → Reads n v z → unsigned_abs v ≤ n
 bound_of {n} p = subst (λ y. unsigned_abs y ≤ n) (sym p.is) p.bound
@@ -114,6 +139,9 @@ term_of u v w = b64 u.x *ℤ b64 (b64 v.y -ℤ b64 w.y)
 module _ {v w : Vector2} {b c : Corner} (q : Wide v b) (r : Wide w c) where
   rise : Reads 32768 (b64 (b64 v.y -ℤ b64 w.y)) (b.y -ℤ c.y)
   rise = less (wide_y q) (wide_y r) (lit≤ tt)
+
+  pub rise_fits : FitsSigned w64 (b64 v.y -ℤ b64 w.y)
+  rise_fits = less_fits (wide_y q) (wide_y r) (lit≤ tt)
 
   pub term : {u : Vector2} {a : Corner} → Wide u a → Reads 536870912 (b64 (term_of u v w)) (a.x *ℤ (b.y -ℤ c.y))
   term p = times (wide_x p) rise (lit≤ tt)

@@ -67,7 +67,7 @@ part p q r = p.x *ℤ (q.y -ℤ r.y)
 part_bound : (p q r : Corner) → Near p → Near q → Near r → unsigned_abs (part p q r) ≤ 536870912
 part_bound p q r h k l = product_bound p.x (q.y -ℤ r.y) 16384 32768 h.0 (difference_bound q.y r.y 16384 16384 k.1 l.1)
 
-denom_bound : (a b c d : Corner) → Near a → Near b → Near c → Near d → unsigned_abs (denom a b c d) ≤ 2 ^ 31
+pub denom_bound : (a b c d : Corner) → Near a → Near b → Near c → Near d → unsigned_abs (denom a b c d) ≤ 2 ^ 31
 unfolding denom
 denom_bound a b c d na nb nc nd =
     let p = part a d c in

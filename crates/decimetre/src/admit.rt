@@ -13,7 +13,8 @@ pub fn is_near(c: Corner) -> bool
     ensures value { result ≡ near c }
     ensures told { result ≡ true → Near c }
 {
-    -FARTHEST <= c.x && c.x <= FARTHEST && -FARTHEST <= c.y && c.y <= FARTHEST
+    let within = -FARTHEST..=FARTHEST;
+    within.contains(&c.x) && within.contains(&c.y)
 }
 
 /// The corner that a pair is admitted as, if it is.

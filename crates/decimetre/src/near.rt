@@ -31,6 +31,7 @@ impl Corner {
     pub(crate) fn near(self) -> Option<NearCorner>
         ensures { result ≡ near_of self }
     {
+        // Not by `then`: its closure takes up the two fields apart, and would need a `requires` of its own that says again what is tested here.
         if is_near(self) {
             Some(NearCorner {
                 x: self.x as i16,

@@ -3,6 +3,7 @@ ghost use Rattle.std.specs.Prelude.{◌≡◌};
 ghost use Rattle.decimetre.specs.Exact.{turn_at, against_at};
 
 use crate::corner::Corner;
+use crate::math::Measure;
 use crate::triangle::side_of;
 use plane::answer::Side;
 
@@ -23,5 +24,5 @@ pub fn against(a: Corner, b: Corner, c: Corner, d: Corner) -> bool
     let (Some(a), Some(b), Some(c), Some(d)) = (a.near(), b.near(), c.near(), d.near()) else {
         return false;
     };
-    (b - a).dot(d - c).value < 0
+    (b - a).dot(d - c) < Measure::ZERO
 }

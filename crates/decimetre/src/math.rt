@@ -14,8 +14,9 @@ pub(crate) struct Vector2 {
     ghost short: { (unsigned_abs x ≤ 2 * farthest) × (unsigned_abs y ≤ 2 * farthest) },
 }
 
-/// A length along an axis, or a doubled area: at most 2^31 in size. Clauses see it as the number.
-#[derive(Clone, Copy)]
+/// What edges are measured by: a length along an axis, a doubled area, a dot product, or the denominator or numerator of a place on an edge.
+/// At most 2^31 in size. Clauses see it as the number.
+#[derive(Clone, Copy, PartialEq, Eq, PartialOrd, Ord)]
 pub(crate) struct Measure {
     pub value: i64,
 }
@@ -30,6 +31,10 @@ impl Model for Measure {
     ghost invariant = { λ m. unsigned_abs m.value ≤ 2 ^ 31 };
 
     ghost inverse = { λ z. record { value = z } };
+}
+
+impl Measure {
+    pub(crate) const ZERO: Measure = Measure { value: 0 };
 }
 
 impl Neg for Measure {

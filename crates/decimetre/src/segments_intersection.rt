@@ -38,7 +38,7 @@ fn num_of(p: NearCorner, q: NearCorner, r: NearCorner) -> Measure
 fn portion_of(num: Measure, denom: Measure) -> Option<Mark>
     ensures { result ≡ portion num denom }
 {
-    match (num.value.cmp(&0), num.value.cmp(&denom.value)) {
+    match (num.cmp(&Measure::ZERO), num.cmp(&denom)) {
         (Ordering::Less, _) | (_, Ordering::Greater) => None,
         (Ordering::Equal, _) => Some(Mark::Start),
         (Ordering::Greater, Ordering::Less) => Some(Mark::Inside(Fraction {
@@ -53,7 +53,7 @@ fn portion_of(num: Measure, denom: Measure) -> Option<Mark>
 fn share_of(num: Measure, denom: Measure) -> Option<Mark>
     ensures { result ≡ share num denom }
 {
-    if denom.value < 0 {
+    if denom < Measure::ZERO {
         portion_of(-num, -denom)
     } else {
         portion_of(num, denom)
@@ -111,7 +111,7 @@ pub fn segments_intersection2d(a: Corner, b: Corner, c: Corner, d: Corner) -> Me
         return Meet::Apart;
     };
     let denom = denom_of(a, b, c, d);
-    if denom.value == 0 {
+    if denom == Measure::ZERO {
         return parallel_intersection(a, b, c, d);
     }
     let s = share_of(num_of(a, c, d), denom);

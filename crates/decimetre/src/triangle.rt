@@ -19,7 +19,7 @@ pub(crate) fn area2_of(a: NearCorner, b: NearCorner, c: NearCorner) -> Measure
 pub(crate) fn side_of(area: Measure) -> Side
     ensures { result ≡ side_of area }
 {
-    match area.value.cmp(&0) {
+    match area.cmp(&Measure::ZERO) {
         Ordering::Greater => Side::Left,
         Ordering::Less => Side::Right,
         Ordering::Equal => Side::Level,

@@ -7,8 +7,8 @@ use Rattle.decimetre.specs.Propers.{at_proper}
 use Rattle.decimetre.proofs.Products.{num1_is, num2_is}
 use Rattle.decimetre.proofs.segments_intersection.segments_intersection2d.Goals as goal
 
-pub returns-then-denom-eq0 : goal.returns-then-denom-eq0
-returns-then-denom-eq0 c =
+pub returns-then-eq : goal.returns-then-eq
+returns-then-eq c =
     let e : c.parallel_intersection.result ≡ meet_at c.args.a c.args.b c.args.c c.args.d = grind (arith, common_steps, is_near, is_same) in
     record { value = e; proper = subst ProperMeet (sym e) (at_proper c.args.a c.args.b c.args.c c.args.d) }
 

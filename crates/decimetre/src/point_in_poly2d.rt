@@ -3,14 +3,15 @@ ghost use Rattle.std.specs.Prelude.{◌≡◌, false, pos, if◌then◌else◌, 
 ghost use Rattle.decimetre.specs.Exact.{passed_at};
 
 use crate::corner::Corner;
+use crate::math::Measure;
 
 // Whether the edge counts: by whether it starts at the point's height or below, and ends above it.
-fn counts(starts: bool, ends: bool, perp: i64) -> bool
+fn counts(starts: bool, ends: bool, perp: Measure) -> bool
     ensures { result ≡ (if starts then (if ends then int_lt perp (pos 0) else false) else (if ends then false else int_lt (pos 0) perp)) }
 {
     match (starts, ends) {
-        (true, true) => perp < 0,
-        (false, false) => perp > 0,
+        (true, true) => perp < Measure::ZERO,
+        (false, false) => perp > Measure::ZERO,
         _ => false,
     }
 }
@@ -25,5 +26,5 @@ pub fn passed(p: Corner, a: Corner, b: Corner) -> bool
     let seg_dir = b - a;
     let dpt = p - a;
     let perp = dpt.perp_dot(seg_dir);
-    counts(dpt.y >= 0, b.y > p.y, perp.value)
+    counts(dpt.y >= 0, b.y > p.y, perp)
 }

@@ -59,6 +59,6 @@ impl Arithmetic for Decimetre {
     }
 
     fn point_of(&self, c: Corner) -> Point {
-        segment::corner_point(c)
+        Point::from(c)
     }
 }

@@ -41,10 +41,3 @@ impl From<Corner> for Point {
         }
     }
 }
-
-/// The point of a corner.
-pub fn corner_point(c: Corner) -> Point
-    ensures { result ≡ point_of c }
-{
-    Point::from(c)
-}

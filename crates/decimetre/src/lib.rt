@@ -1,4 +1,6 @@
 // The exact arithmetic: corners in whole decimetres, and nothing rounded.
+// What shares a name with single precision (orientation2d, segments_intersection2d, between, passed, turn, against, to_point, admitted, FARTHEST, Point)
+// differs in more than a type: here it tests whether corners are near and bounds its numbers, there it has a tolerance and rounds.
 #![tactic(auto)]
 
 pub mod admit;

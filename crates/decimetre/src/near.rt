@@ -28,6 +28,7 @@ impl Model for NearCorner {
 
 impl Corner {
     /// The corner as one that is known to be near, if it is.
+    // A corner is plain and no question is refused, so one that is not near has a plain answer: level, apart, false, the origin.
     pub(crate) fn near(self) -> Option<NearCorner>
         ensures { result ≡ near_of self }
     {

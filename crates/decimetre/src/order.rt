@@ -18,6 +18,7 @@ impl From<Mark> for Fraction {
 }
 
 /// Whether m stands before n or level with it, as marks of one edge.
+// Not a derived order: a fraction is not reduced and may have 0 below, so the order by cross multiplication breaks the laws of `PartialOrd`.
 pub fn not_after(m: Mark, n: Mark) -> bool
     ensures { result ≡ not_after m n }
 {

@@ -88,7 +88,8 @@ fn between(a: NearCorner, b: NearCorner, c: NearCorner) -> Option<Mark>
     }
 }
 
-// How two parallel edges meet: apart unless c is level with ab. Shared with single precision, it would be handed the level test and `between`, and be no shorter.
+// How two parallel edges meet: apart unless c is level with ab. It keeps the source's name in either arithmetic: shared, it would be handed
+// the level test and `between` as closures.
 fn parallel_intersection(a: NearCorner, b: NearCorner, c: NearCorner, d: NearCorner) -> Meet<Mark>
     ensures { result ≡ parallel a b c d }
 {

@@ -1,7 +1,7 @@
 -- The polynomial identities between the formulas of the exact arithmetic. Assumes nothing.
 use Rattle.std.proofs.Common.{◌≡◌, List, [], ◌∷◌, ℤ, ◌+ℤ◌, ◌-ℤ◌, ◌*ℤ◌, neg_ℤ, refl}
 use Rattle.decimetre.specs.declared.corner.Corner.{Corner}
-use Rattle.decimetre.specs.Exact.{area2, denom, num1, num2, perp, cross}
+use Rattle.decimetre.specs.Exact.{area2, denom, num_of, num1, num2, perp, cross}
 use Rattle.decimetre.specs.Plane.{doubled_area}
 use Rattle.decimetre.proofs.Ring.{Expr, var, ◌⊕◌, ◌⊖◌, ◌⊗◌, ⊝◌, ring}
 
@@ -38,16 +38,16 @@ abbrev swept_area : Expr
 swept_area = (ax ⊗ by ⊖ bx ⊗ ay) ⊕ (bx ⊗ cy ⊖ cx ⊗ by) ⊕ (cx ⊗ ay ⊖ ax ⊗ cy)
 
 pub area_swept : (a b c : Corner) → area2 a b c ≡ doubled_area a b c
-unfolding area2
+unfolding cross
 area_swept a b c = ring (corners a b c c []) ((bx ⊖ ax) ⊗ (cy ⊖ ay) ⊖ (by ⊖ ay) ⊗ (cx ⊖ ax)) swept_area refl
 
 -- the inside test's product, as the area that is swept from either end
 pub perp_climbs : (p a b : Corner) → doubled_area a b p ≡ neg_ℤ (perp p a b)
-unfolding perp
+unfolding cross
 perp_climbs p a b = ring (corners a b p p []) swept_area (⊝ ((cx ⊖ ax) ⊗ (by ⊖ ay) ⊖ (cy ⊖ ay) ⊗ (bx ⊖ ax))) refl
 
 pub perp_falls : (p a b : Corner) → doubled_area b a p ≡ perp p a b
-unfolding perp
+unfolding cross
 perp_falls p a b = ring (corners b a p p []) swept_area ((cx ⊖ bx) ⊗ (ay ⊖ by) ⊖ (cy ⊖ by) ⊗ (ax ⊖ bx)) refl
 
 -- D, S and T
@@ -66,11 +66,11 @@ denom-cross a b c d = ring (corners a b c d []) the_d (⊝ ((bx ⊖ ax) ⊗ (dy 
 
 -- S over D on the one edge is T over D on the other
 pub one_x : (a b c d : Corner) → a.x *ℤ (denom a b c d -ℤ num1 a b c d) +ℤ b.x *ℤ num1 a b c d ≡ c.x *ℤ (denom a b c d -ℤ num2 a b c d) +ℤ d.x *ℤ num2 a b c d
-unfolding denom num1 num2
+unfolding denom num_of
 one_x a b c d = ring (corners a b c d []) (ax ⊗ (the_d ⊖ the_s) ⊕ bx ⊗ the_s) (cx ⊗ (the_d ⊖ the_t) ⊕ dx ⊗ the_t) refl
 
 pub one_y : (a b c d : Corner) → a.y *ℤ (denom a b c d -ℤ num1 a b c d) +ℤ b.y *ℤ num1 a b c d ≡ c.y *ℤ (denom a b c d -ℤ num2 a b c d) +ℤ d.y *ℤ num2 a b c d
-unfolding denom num1 num2
+unfolding denom num_of
 one_y a b c d = ring (corners a b c d []) (ay ⊗ (the_d ⊖ the_s) ⊕ by ⊗ the_s) (cy ⊗ (the_d ⊖ the_t) ⊕ dy ⊗ the_t) refl
 
 -- two places, u / l and v / m
@@ -104,9 +104,9 @@ module _ (a b c d : Corner) (u l v m : ℤ) where
   between_y = gap a.y b.y c.y d.y u l v m
 
   pub first_gap : m *ℤ (u *ℤ denom a b c d -ℤ l *ℤ num1 a b c d) ≡ between_y *ℤ (d.x -ℤ c.x) -ℤ between_x *ℤ (d.y -ℤ c.y)
-  unfolding denom num1
+  unfolding denom num_of
   first_gap = ring (corners a b c d (u ∷ l ∷ v ∷ m ∷ [])) (m' ⊗ (u' ⊗ the_d ⊖ l' ⊗ the_s)) (gap_y ⊗ (dx ⊖ cx) ⊖ gap_x ⊗ (dy ⊖ cy)) refl
 
   pub second_gap : l *ℤ (v *ℤ denom a b c d -ℤ m *ℤ num2 a b c d) ≡ between_y *ℤ (b.x -ℤ a.x) -ℤ between_x *ℤ (b.y -ℤ a.y)
-  unfolding denom num2
+  unfolding denom num_of
   second_gap = ring (corners a b c d (u ∷ l ∷ v ∷ m ∷ [])) (l' ⊗ (v' ⊗ the_d ⊖ m' ⊗ the_t)) (gap_y ⊗ (bx ⊖ ax) ⊖ gap_x ⊗ (by ⊖ ay)) refl

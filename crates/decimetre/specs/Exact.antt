@@ -37,9 +37,13 @@ corner_of p = record { x = p.x; y = p.y }
 abbrev pub admitted : Pair → Option Corner
 admitted p = cond (near (corner_of p)) (Some (corner_of p)) None
 
+-- the cross product of the directions from a to b and from c to d
+unfoldable pub cross : Corner → Corner → Corner → Corner → ℤ
+cross a b c d = (b.x -ℤ a.x) *ℤ (d.y -ℤ c.y) -ℤ (b.y -ℤ a.y) *ℤ (d.x -ℤ c.x)
+
 -- the doubled area of the triangle from a by b to c, above 0 where it turns left
-unfoldable pub area2 : Corner → Corner → Corner → ℤ
-area2 a b c = (b.x -ℤ a.x) *ℤ (c.y -ℤ a.y) -ℤ (b.y -ℤ a.y) *ℤ (c.x -ℤ a.x)
+abbrev pub area2 : Corner → Corner → Corner → ℤ
+area2 a b c = cross a b a c
 
 -- the side that a doubled area tells
 abbrev pub side_of : ℤ → Side
@@ -49,13 +53,17 @@ side_of z = cond (int_lt (pos 0) z) Left (cond (int_lt z (pos 0)) Right Level)
 unfoldable pub denom : Corner → Corner → Corner → Corner → ℤ
 denom a b c d = a.x *ℤ (d.y -ℤ c.y) +ℤ b.x *ℤ (c.y -ℤ d.y) +ℤ d.x *ℤ (b.y -ℤ a.y) +ℤ c.x *ℤ (a.y -ℤ b.y)
 
+-- what S and T are summed up from: the doubled area of the triangle from p by r to q
+unfoldable pub num_of : Corner → Corner → Corner → ℤ
+num_of p q r = p.x *ℤ (r.y -ℤ q.y) +ℤ q.x *ℤ (p.y -ℤ r.y) +ℤ r.x *ℤ (q.y -ℤ p.y)
+
 -- S: the place on the edge from a to b is S over D
-unfoldable pub num1 : Corner → Corner → Corner → Corner → ℤ
-num1 a b c d = a.x *ℤ (d.y -ℤ c.y) +ℤ c.x *ℤ (a.y -ℤ d.y) +ℤ d.x *ℤ (c.y -ℤ a.y)
+abbrev pub num1 : Corner → Corner → Corner → Corner → ℤ
+num1 a b c d = num_of a c d
 
 -- T: the place on the edge from c to d is T over D
-unfoldable pub num2 : Corner → Corner → Corner → Corner → ℤ
-num2 a b c d = neg_ℤ (a.x *ℤ (c.y -ℤ b.y) +ℤ b.x *ℤ (a.y -ℤ c.y) +ℤ c.x *ℤ (b.y -ℤ a.y))
+abbrev pub num2 : Corner → Corner → Corner → Corner → ℤ
+num2 a b c d = neg_ℤ (num_of a b c)
 
 -- the mark at u over l, where l is above 0: none outside 0 to 1
 abbrev pub portion : ℤ → ℤ → Option Mark
@@ -100,18 +108,14 @@ abbrev pub not_after : Mark → Mark → Bool
 not_after m n = nat_le (upper_of m * lower_of n) (upper_of n * lower_of m)
 
 -- the product that a round of the inside test judges by
-unfoldable pub perp : Corner → Corner → Corner → ℤ
-perp p a b = (p.x -ℤ a.x) *ℤ (b.y -ℤ a.y) -ℤ (p.y -ℤ a.y) *ℤ (b.x -ℤ a.x)
+abbrev pub perp : Corner → Corner → Corner → ℤ
+perp p a b = cross a p a b
 
 -- whether the edge from a to b counts for the point p: a round of the inside test
 abbrev pub passed_of : Corner → Corner → Corner → Bool
 passed_of p a b = cond (int_lt p.y a.y) (cond (int_lt p.y b.y) false (int_lt (pos 0) (perp p a b))) (cond (int_lt p.y b.y) (int_lt (perp p a b) (pos 0)) false)
 
--- the cross product of the directions from a to b and from c to d
-unfoldable pub cross : Corner → Corner → Corner → Corner → ℤ
-cross a b c d = (b.x -ℤ a.x) *ℤ (d.y -ℤ c.y) -ℤ (b.y -ℤ a.y) *ℤ (d.x -ℤ c.x)
-
--- and their dot product
+-- the dot product of the directions from a to b and from c to d
 unfoldable pub dot : Corner → Corner → Corner → Corner → ℤ
 dot a b c d = (b.x -ℤ a.x) *ℤ (d.x -ℤ c.x) +ℤ (b.y -ℤ a.y) *ℤ (d.y -ℤ c.y)
 

@@ -6,8 +6,8 @@ use Rattle.std.specs.Int.{w16, w32, w64}
 use Rattle.std.proofs.lemmas.Int.{ints, to_z-of_z, to_z_pos}
 use Rattle.decimetre.specs.declared.corner.Corner.{Corner}
 use Rattle.decimetre.specs.declared.math.Vector2.{Vector2}
-use Rattle.decimetre.specs.Exact.{denom, Near}
-use Rattle.decimetre.specs.Vectors.{Leads, Wide, num_of}
+use Rattle.decimetre.specs.Exact.{denom, num_of, Near}
+use Rattle.decimetre.specs.Vectors.{Leads, Wide}
 
 -- the sign of a product does not change its size
 sizes : (n m : ℕ) (z : ℤ) → (z ≡ pos n) ⊎ (z ≡ neg_ℤ (pos n)) → n ≤ m → unsigned_abs z ≤ m

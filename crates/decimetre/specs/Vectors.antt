@@ -22,7 +22,3 @@ perp_dot u v = u.x *ℤ v.y -ℤ u.y *ℤ v.x
 -- the dot product
 unfoldable pub dot_of : Vector2 → Vector2 → ℤ
 dot_of u v = u.x *ℤ v.x +ℤ u.y *ℤ v.y
-
--- what S and T are summed up from: the doubled area of the triangle from p by r to q
-unfoldable pub num_of : Corner → Corner → Corner → ℤ
-num_of p q r = p.x *ℤ (r.y -ℤ q.y) +ℤ q.x *ℤ (p.y -ℤ r.y) +ℤ r.x *ℤ (q.y -ℤ p.y)

@@ -1,8 +1,7 @@
 // Where two edges meet.
 ghost use Rattle.std.specs.Prelude.{◌≡◌};
-ghost use Rattle.decimetre.specs.Exact.{denom, portion, share, crossing, between_at, parallel, meet_at};
+ghost use Rattle.decimetre.specs.Exact.{denom, num_of, portion, share, crossing, between_at, parallel, meet_at};
 ghost use Rattle.decimetre.specs.Plane.{ProperMeet};
-ghost use Rattle.decimetre.specs.Vectors.{num_of};
 
 use crate::corner::{Corner, Fraction, Mark};
 use crate::math::{Measure, Vector2};

@@ -4,7 +4,6 @@ use Rattle.decimetre.specs.Exact.{meet_at}
 use Rattle.decimetre.specs.Plane.{ProperMeet}
 use Rattle.decimetre.specs.Nears.{is_near, is_same}
 use Rattle.decimetre.specs.Propers.{at_proper}
-use Rattle.decimetre.proofs.Products.{num1_is, num2_is}
 use Rattle.decimetre.proofs.segments_intersection.segments_intersection2d.Goals as goal
 
 pub returns-then-eq : goal.returns-then-eq
@@ -14,5 +13,5 @@ returns-then-eq c =
 
 pub returns : goal.returns
 returns c =
-    let e : c.crossing_of.result ≡ meet_at c.args.a c.args.b c.args.c c.args.d = grind (arith, common_steps, is_near, is_same, num1_is, num2_is) in
+    let e : c.crossing_of.result ≡ meet_at c.args.a c.args.b c.args.c c.args.d = grind (arith, common_steps, is_near, is_same) in
     record { value = e; proper = subst ProperMeet (sym e) (at_proper c.args.a c.args.b c.args.c c.args.d) }

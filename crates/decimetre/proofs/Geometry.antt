@@ -1,5 +1,5 @@
 -- The laws of the plane that the answers of the exact arithmetic keep. Assumes nothing.
-use Rattle.std.proofs.Common.{◌≡◌, ℕ, Bool, true, false, cond, eqb, ℤ, pos, ◌*ℤ◌, neg_ℤ, nat_abs, ◌≤ℤ◌, ◌<ℤ◌, Some, None, Decides, Option, sym, refl, ap, ◌∙◌, subst, inl, inr, ⊎_elim, arith}
+use Rattle.std.proofs.Common.{◌≡◌, Bool, true, false, cond, eqb, ℤ, pos, ◌*ℤ◌, neg_ℤ, nat_abs, ◌≤ℤ◌, ◌<ℤ◌, Some, None, Decides, Option, sym, refl, ap, ◌∙◌, subst, inl, inr, ⊎_elim, arith}
 use lib.Signed.{lt_z}
 use Rattle.std.proofs.lemmas.Int.{ints}
 use Rattle.std.proofs.lemmas.Bool.{cond_both, eqb-true, eqb-false}
@@ -9,20 +9,15 @@ use Rattle.plane.specs.declared.answer.Meet.TheVariants.{Apart, Overlap}
 use Rattle.decimetre.specs.declared.corner.Corner.{Corner}
 use Rattle.plane.specs.declared.mark.Mark.TheVariants.{Start, End}
 use Rattle.plane.specs.Marks.{both, overlap_of}
-use Rattle.decimetre.specs.Exact.{Mark, area2, side_of, side_at, near3, near4, denom, num1, num2, share, crossing, between_at, parallel, meet_of, meet_at, upper_of, lower_of, perp, passed_of, passed_at, cross}
+use Rattle.decimetre.specs.Exact.{Mark, area2, side_at, near3, near4, denom, num1, num2, share, crossing, between_at, parallel, meet_of, meet_at, upper_of, lower_of, perp, passed_at, cross}
 use Rattle.decimetre.specs.Plane.{doubled_area, SideBySign, AtOnePoint, CrossesAt, SharedCrosses, NotParallel, Climbs, HalfOpen}
 use Rattle.decimetre.proofs.Ratios.{one_place, vanishes, equal_of, above_zero}
 use Rattle.decimetre.proofs.Identities.{area_swept, perp_climbs, perp_falls, denom-cross, one_x, one_y, first_gap, second_gap}
 use Rattle.decimetre.proofs.Marks.{StandsIf, share_stands, IsMark, share_is, stands_at}
 
--- of near corners the formula is told
-told : {A : Type 0} (t : Bool) (x y : A) (P : A → Type 0) → t ≡ true → P x → P (cond t x y)
-told true x y P e h = h
-told false x y P e h = let z : ◌≡◌ {A = ℕ} 0 1 = cc in absurd (omega arith)
-
 -- a side is the sign of the doubled area
 pub side_by_sign : (a b c : Corner) → near3 a b c ≡ true → SideBySign a b c (side_at a b c)
-side_by_sign a b c near = told (near3 a b c) (side_of (area2 a b c)) Level (SideBySign a b c) near (go (lt_z (pos 0) (area2 a b c)) (lt_z (area2 a b c) (pos 0)) refl refl)
+side_by_sign a b c near = rw near (go (lt_z (pos 0) (area2 a b c)) (lt_z (area2 a b c) (pos 0)) refl refl)
   where
     go : (s t : Bool) → lt_z (pos 0) (area2 a b c) ≡ s → lt_z (area2 a b c) (pos 0) ≡ t → SideBySign a b c (cond s Left (cond t Right Level))
     go true t e f = subst (λ z. pos 0 <ℤ z) (area_swept a b c) (omega (arith, ints))
@@ -86,8 +81,8 @@ at_one_point a b c d = cond_both (near4 a b c d) (meet_of a b c d) Apart (AtOneP
 
 -- two edges that are not parallel and share a point cross, and there
 pub shared_crosses : (a b c d : Corner) → near4 a b c d ≡ true → SharedCrosses a b c d (meet_at a b c d)
-shared_crosses a b c d near u l v m first second apart one = told (near4 a b c d) (meet_of a b c d) Apart (CrossesAt u l v m) near
-    (meet_ways (CrossesAt u l v m) a b c d (λ zero. absurd (n zero))
+shared_crosses a b c d near u l v m first second apart one =
+    rw near (meet_ways (CrossesAt u l v m) a b c d (λ zero. absurd (n zero))
     (λ _. go (share S D) (share T D) (share_stands S D n) (share_stands T D n) (share_is S D u l n first.within first.parted on_first) (share_is T D v m n second.within second.parted on_second)))
   where
     S : ℤ
@@ -115,7 +110,7 @@ shared_crosses a b c d near u l v m first second apart one = told (near4 a b c d
 
 -- an edge that climbs past p neither way does not count
 uncounted : (p a b : Corner) → (Climbs p a b → ⊥) → (Climbs p b a → ⊥) → Decides false (HalfOpen p a b)
-uncounted p a b up down = ((λ e. let z : ◌≡◌ {A = ℕ} 0 1 = cc in absurd (omega arith)), ⊎_elim (λ k. absurd (up k)) (λ k. absurd (down k)))
+uncounted p a b up down = ((λ e. absurd cc), ⊎_elim (λ k. absurd (up k)) (λ k. absurd (down k)))
 
 -- and one that climbs past p at most one way counts by the sign of the area
 climbs_from : (p a b : Corner) → a.y ≤ℤ p.y → p.y <ℤ b.y → Decides (lt_z (perp p a b) (pos 0)) (HalfOpen p a b)
@@ -138,7 +133,7 @@ climbs_to p a b from short = (
 
 -- an edge counts for a point exactly where it climbs past it, from one of its ends to the other
 pub half_open : (p a b : Corner) → near3 p a b ≡ true → Decides (passed_at p a b) (HalfOpen p a b)
-half_open p a b near = told (near3 p a b) (passed_of p a b) false (λ r. Decides r (HalfOpen p a b)) near (go (lt_z p.y a.y) (lt_z p.y b.y) refl refl)
+half_open p a b near = rw near (go (lt_z p.y a.y) (lt_z p.y b.y) refl refl)
   where
     go : (s t : Bool) → lt_z p.y a.y ≡ s → lt_z p.y b.y ≡ t → Decides (cond s (cond t false (lt_z (pos 0) (perp p a b))) (cond t (lt_z (perp p a b) (pos 0)) false)) (HalfOpen p a b)
     go true true e f = uncounted p a b (λ k. let h = k.from in omega (arith, ints)) (λ k. let h = k.from in omega (arith, ints))

@@ -1,25 +1,16 @@
 -- Which number a signed value of the code is, and how large. Assumes nothing.
-use Rattle.std.specs.Prelude.{◌≡◌, ℕ, zero, suc, ◌+◌, ◌*◌, ◌^◌, ◌<◌, ◌≤◌, true, false, ◌⊎◌, ℤ, pos, negsuc, ◌+ℤ◌, ◌-ℤ◌, ◌*ℤ◌, neg_ℤ, FitsSigned, ◌==◌, ◌≢◌, nat_eq, unsigned_abs, refl}
-use Rattle.std.proofs.Common.{sym, ap, ap₂, subst, ◌∙◌, inl, inr, arith, mul-le-mul, le_trans, lit≤, to_z, of_z}
+use Rattle.std.specs.Prelude.{◌≡◌, ℕ, zero, suc, ◌+◌, ◌*◌, ◌^◌, ◌<◌, ◌≤◌, true, false, ℤ, pos, negsuc, ◌+ℤ◌, ◌-ℤ◌, ◌*ℤ◌, neg_ℤ, FitsSigned, ◌==◌, ◌≢◌, nat_eq, unsigned_abs, refl}
+use Rattle.std.proofs.Common.{sym, ap, ap₂, subst, ◌∙◌, arith, mul-le-mul, le_trans, lit≤, to_z, of_z}
 use Rattle.std.proofs.Math.IntN.{+ℤ_idl}
 use Rattle.std.specs.Int.{w16, w32, w64}
-use Rattle.std.proofs.lemmas.Int.{ints, to_z-of_z, to_z_pos}
+use Rattle.std.proofs.lemmas.Int.{ints, to_z-of_z, to_z_pos, unsigned_abs-mul}
 use Rattle.decimetre.specs.declared.corner.Corner.{Corner}
 use Rattle.decimetre.specs.declared.math.Vector2.{Vector2}
 use Rattle.decimetre.specs.Exact.{denom, num_of, Near}
 use Rattle.decimetre.specs.Vectors.{Leads, Wide}
 
--- the sign of a product does not change its size
-sizes : (n m : ℕ) (z : ℤ) → (z ≡ pos n) ⊎ (z ≡ neg_ℤ (pos n)) → n ≤ m → unsigned_abs z ≤ m
-sizes n m z (inl e) h = rw e h
-sizes zero m z (inr e) h = rw e h
-sizes (suc n) m z (inr e) h = rw e h
-
 pub product_bound : (a b : ℤ) (m n : ℕ) → unsigned_abs a ≤ m → unsigned_abs b ≤ n → unsigned_abs (a *ℤ b) ≤ m * n
-product_bound (pos x) (pos y) m n h k = sizes (x * y) (m * n) _ (inl refl) (mul-le-mul h k)
-product_bound (pos x) (negsuc y) m n h k = sizes (x * suc y) (m * n) _ (inr refl) (mul-le-mul h k)
-product_bound (negsuc x) (pos y) m n h k = sizes (suc x * y) (m * n) _ (inr refl) (mul-le-mul h k)
-product_bound (negsuc x) (negsuc y) m n h k = sizes (suc x * suc y) (m * n) _ (inl refl) (mul-le-mul h k)
+product_bound a b m n h k = rw (unsigned_abs-mul a b) (mul-le-mul h k)
 
 pub sum_bound : (a b : ℤ) (m n : ℕ) → unsigned_abs a ≤ m → unsigned_abs b ≤ n → unsigned_abs (a +ℤ b) ≤ m + n
 sum_bound a b m n h k = omega (arith, ints)

@@ -38,10 +38,7 @@ impl Job {
             two: Pairs::new(),
         };
         for at in (0..bytes.len()).step_by(CORNER_BYTES) {
-            let rest = Rest {
-                at,
-                bytes: &bytes[at..],
-            };
+            let rest = Rest::from_offset(bytes, at);
             match rest.kind()? {
                 Kind::Corner(ring) => job.add(ring, &rest)?,
                 Kind::End => return Ok(job),

@@ -1,5 +1,5 @@
 // The records of a job, read one at a time.
-ghost use Rattle.std.specs.Prelude.{◌≡◌, Some, None, MatchResult};
+ghost use Rattle.std.specs.Prelude.{◌≡◌, drop, Some, None, MatchResult};
 ghost use Rattle.job.specs.Format.{answered, kind_of, kind_at, pair_at};
 
 use decimetre::corner::Pair;
@@ -42,7 +42,18 @@ pub struct Rest<'a> {
     pub bytes: &'a [u8],
 }
 
-impl Rest<'_> {
+impl<'a> Rest<'a> {
+    /// The rest from an offset on: no bytes where the offset is past the end.
+    pub fn from_offset(bytes: &'a [u8], at: usize) -> Rest<'a>
+        ensures at { result.at ≡ at }
+        ensures bytes { result.bytes.now ≡ drop at bytes.now }
+    {
+        Rest {
+            at,
+            bytes: bytes.get(at..).unwrap_or(&[]),
+        }
+    }
+
     /// The kind of the record.
     pub fn kind(&self) -> Result<Kind, Refusal>
         ensures { answered result ≡ kind_at self.now.at self.now.bytes.now }
@@ -52,7 +63,7 @@ impl Rest<'_> {
         Kind::try_from(*byte).map_err(|_| Refusal::UnknownKind(at))
     }
 
-    /// The pair in the body of the record, if it is a corner's.
+    /// The pair that the four bytes after the record's kind hold; the kind is not looked at.
     pub fn pair(&self) -> Result<Pair, Refusal>
         ensures { answered result ≡ pair_at self.now.at self.now.bytes.now }
     {

@@ -1,6 +1,5 @@
 -- What is left gives the answer, from record to record.
 use Rattle.std.proofs.Common.{◌≡◌, ◌+◌, length, drop, Ok, Err, sym, ap, ◌∙◌, arith}
-use Rattle.std.proofs.lemmas.List.{take_rest}
 use Rattle.plane.specs.Refusals.{tells}
 use Rattle.job.specs.Format.{read_job, seen}
 use Rattle.job.specs.Held.{lists_of}
@@ -11,33 +10,33 @@ use Rattle.job.proofs.job.Job.read.Goals as goal
 
 pub returns-in_err-ring : goal.returns-in_err-ring
 returns-in_err-ring c =
-    let v : seen lists_of c.from_residual.result ≡ read_job c.args.bytes.now = grind (arith, take_rest, reads_one c.loop-at.at (lists_of c.loop-at.job) (drop c.loop-at.at c.args.bytes.now)) in
+    let v : seen lists_of c.from_residual.result ≡ read_job c.args.bytes.now = grind (arith, reads_one c.loop-at.at (lists_of c.loop-at.job) (drop c.loop-at.at c.args.bytes.now)) in
     record { value = v; split = split_of _ _ c.type_inv.bytes v }
 
 pub returns-in_err-add-in-Corner : goal.returns-in_err-add-in-Corner
 returns-in_err-add-in-Corner c =
-    let v : seen lists_of c.from_residual-in_err-add-in-Corner.result ≡ read_job c.args.bytes.now = grind (arith, take_rest, reads_one c.loop-at.at (lists_of c.loop-at.job) (drop c.loop-at.at c.args.bytes.now)) in
+    let v : seen lists_of c.from_residual-in_err-add-in-Corner.result ≡ read_job c.args.bytes.now = grind (arith, reads_one c.loop-at.at (lists_of c.loop-at.job) (drop c.loop-at.at c.args.bytes.now)) in
     record { value = v; split = split_of _ _ c.type_inv.bytes v }
 
 pub returns-in-End : goal.returns-in-End
 returns-in-End c =
-    let v : Ok (lists_of c.loop-at.job) ≡ read_job c.args.bytes.now = grind (arith, take_rest, reads_one c.loop-at.at (lists_of c.loop-at.job) (drop c.loop-at.at c.args.bytes.now)) in
+    let v : Ok (lists_of c.loop-at.job) ≡ read_job c.args.bytes.now = grind (arith, reads_one c.loop-at.at (lists_of c.loop-at.job) (drop c.loop-at.at c.args.bytes.now)) in
     record { value = v; split = split_of _ _ c.type_inv.bytes v }
 
 pub loop-at-preserved : goal.loop-at-preserved
 loop-at-preserved c =
-    let left = take_rest c.args.bytes.now c.loop-at.at in
-    let kind = sym (ap Ok c.in-Corner.is) ∙ rw left at c.in_ok-ring.ensures in
-    let on = reads_on c.args.bytes.now c.loop-at.at (lists_of c.loop-at.job) (lists_of c.add.new.self) c.in-Corner.ring kind (rw left at c.in_ok-add-in-Corner.ensures.value) in
+    let rest = c.from_offset-rest.ensures in
+    let kind = sym (ap Ok c.in-Corner.is) ∙ rw (rest.at, rest.bytes) at c.in_ok-ring.ensures in
+    let on = reads_on c.args.bytes.now c.loop-at.at (lists_of c.loop-at.job) (lists_of c.add.new.self) c.in-Corner.ring kind (rw (rest.at, rest.bytes) at c.in_ok-add-in-Corner.ensures.value) in
     record { within = on.0; same = on.1 ∙ c.loop-at.invariant.same }
 
 ends : (c : goal.Left-loop-at) → Err (tells 13 (length c.args.bytes.now)) ≡ read_job c.args.bytes.now
 ends c = elim c.loop-at-test.branch [
   | else-loop-at-test w ↦ reads_none c.args.bytes.now c.loop-at.at (lists_of c.loop-at.job) (omega arith) ∙ c.loop-at.invariant.same
   | then-loop-at-test+in_ok-ring+in-Corner+in_ok-add-in-Corner+else-at-end-at-gt5 w ↦
-      let left = take_rest c.args.bytes.now c.loop-at.at in
-      let kind = sym (ap Ok w.in-Corner.is) ∙ rw left at w.in_ok-ring.ensures in
-      let on = reads_on c.args.bytes.now c.loop-at.at (lists_of c.loop-at.job) (lists_of w.add.new.self) w.in-Corner.ring kind (rw left at w.in_ok-add-in-Corner.ensures.value) in
+      let rest = w.from_offset-rest.ensures in
+      let kind = sym (ap Ok w.in-Corner.is) ∙ rw (rest.at, rest.bytes) at w.in_ok-ring.ensures in
+      let on = reads_on c.args.bytes.now c.loop-at.at (lists_of c.loop-at.job) (lists_of w.add.new.self) w.in-Corner.ring kind (rw (rest.at, rest.bytes) at w.in_ok-add-in-Corner.ensures.value) in
       reads_none c.args.bytes.now (c.loop-at.at + 5) (lists_of w.add.new.self) (omega arith) ∙ on.1 ∙ c.loop-at.invariant.same
 ]
 

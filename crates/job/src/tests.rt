@@ -1,6 +1,7 @@
 // The job of a star, as it is and with faults in it.
 use crate::job::Job;
 use decimetre::corner::Pair;
+use plane::refusal::Refusal;
 
 const STAR: [u8; 31] = [
     0x11, 0xff, 0xfa, 0xff, 0xfd, 0x11, 0x00, 0x06, 0xff, 0xfd, 0x11, 0x00, 0x00, 0x00, 0x09, 0x12,
@@ -22,20 +23,17 @@ const TWO: [Pair; 3] = [
 /// Kinds that the format does not have.
 const STRANGE: [u8; 5] = [0x00, 0x10, 0x13, 0x15, 0xff];
 
-/// Numbers about the farthest that is admitted, by their bytes, and what is told of them.
-const FAR: [(u8, u8, u8); 4] = [
-    (0x40, 0x00, 0),
-    (0x40, 0x01, 3),
-    (0xc0, 0x00, 0),
-    (0xbf, 0xff, 3),
+/// Numbers about the farthest that is admitted, by their bytes, and whether they are farther.
+const FAR: [(u8, u8, bool); 4] = [
+    (0x40, 0x00, false),
+    (0x40, 0x01, true),
+    (0xc0, 0x00, false),
+    (0xbf, 0xff, true),
 ];
 
-/// Whether the bytes are refused with this number and place; number 0 is no refusal.
-fn tells(bytes: &[u8], number: u8, place: usize) -> bool {
-    match Job::read(bytes) {
-        Ok(_) => number == 0,
-        Err(refusal) => refusal.number() == number && refusal.place() == place,
-    }
+/// Whether reading the bytes gives this refusal, or none.
+fn tells(bytes: &[u8], refusal: Option<Refusal>) -> bool {
+    Job::read(bytes).err() == refusal
 }
 
 /// The star, with these bytes from an offset on.
@@ -54,24 +52,24 @@ fn star_reads() -> bool {
 }
 
 fn truncations_tell() -> bool {
-    (0..31).all(|n| tells(&STAR[0..n], 13, n / 5 * 5))
+    (0..31).all(|n| tells(&STAR[0..n], Some(Refusal::CutShort(n / 5 * 5))))
 }
 
 fn strange_kinds_tell() -> bool {
     (0..7).all(|k| {
-        STRANGE
-            .iter()
-            .all(|kind| tells(&star_with(5 * k, &[*kind]), 12, 5 * k))
+        STRANGE.iter().all(|kind| tells(
+            &star_with(5 * k, &[*kind]),
+            Some(Refusal::UnknownKind(5 * k)),
+        ))
     })
 }
 
 fn far_corners_tell() -> bool {
     (0..6).all(|k| {
-        FAR.iter().all(|(high, low, number)| {
+        FAR.iter().all(|(high, low, farther)| {
             [1, 3].iter().all(|axis| tells(
                 &star_with(5 * k + axis, &[*high, *low]),
-                *number,
-                5 * k,
+                farther.then_some(Refusal::NotAdmitted(5 * k)),
             ))
         })
     })
@@ -80,9 +78,9 @@ fn far_corners_tell() -> bool {
 /// 1,024 corners at 4,369 on both axes, and then the end or one more.
 fn crowds_tell() -> bool {
     let mut bytes = [0x11; 5121];
-    let more = tells(&bytes, 2, 5120);
+    let more = tells(&bytes, Some(Refusal::TooManyCorners(5120)));
     bytes[5120] = 0x14;
-    more && tells(&bytes, 0, 0)
+    more && tells(&bytes, None)
 }
 
 #[test]

@@ -1,22 +1,13 @@
 // Why the program ends without having read a job.
 use plane::refusal::Refusal;
 use std::io;
+use thiserror::Error;
 
 /// The job was refused, or reading or printing failed.
-#[derive(Drop)]
+#[derive(Debug, Drop, Error)]
 pub enum Failure {
-    Refused(Refusal),
-    Io(io::Error),
-}
-
-impl From<Refusal> for Failure {
-    fn from(refusal: Refusal) -> Failure {
-        Failure::Refused(refusal)
-    }
-}
-
-impl From<io::Error> for Failure {
-    fn from(error: io::Error) -> Failure {
-        Failure::Io(error)
-    }
+    #[error(transparent)]
+    Refused(#[from] Refusal),
+    #[error(transparent)]
+    Io(#[from] io::Error),
 }

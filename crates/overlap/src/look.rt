@@ -6,12 +6,12 @@ ghost use Rattle.overlap.specs.Look.{found_between, look_at, cornered};
 use chart::count::count;
 use decimetre::corner::{Corner, Decimetre};
 use job::outlines::read_outlines;
-use plane::outline::Outline;
+use plane::outline::{MOST_CORNERS, Outline};
 use plane::refusal::Refusal;
 use std::fmt;
 
 // Places for the corners of two outlines.
-const PLACES: usize = 2048;
+const PLACES: usize = 2 * MOST_CORNERS;
 
 /// How many corners the two outlines have, and how many pairs of their edges cross.
 #[derive(Clone, Copy, PartialEq, Eq, Debug)]

@@ -6,12 +6,14 @@ mod look;
 
 use crate::failure::Failure;
 use crate::look::look;
+use job::reader::CORNER_BYTES;
+use plane::outline::MOST_CORNERS;
 use std::io;
 use std::io::Read;
 use std::process::ExitCode;
 
-// No job is longer.
-const LONGEST_JOB: u64 = 10_241;
+// No job is longer: two rings of the most corners, and the byte that ends it.
+const LONGEST_JOB: u64 = (2 * MOST_CORNERS * CORNER_BYTES + 1) as u64;
 
 // Reads the job and tells what was found, or why not. A job that is not read is a failure.
 fn run(rt: &HostRuntime) -> Result<(), Failure> {

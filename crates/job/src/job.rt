@@ -1,5 +1,5 @@
 // Jobs, read from bytes.
-ghost use Rattle.std.specs.Prelude.{◌≡◌, true, is_err, Ok};
+ghost use Rattle.std.specs.Prelude.{◌≡◌, Ok, OnErr};
 ghost use Rattle.job.specs.Format.{added, and_then, pairs_in, puts, read_job, seen};
 ghost use Rattle.job.specs.Held.{lists_of};
 ghost use Rattle.job.specs.Laws.{Split};
@@ -20,7 +20,7 @@ impl Job {
     /// Adds the corner's record that the rest begins with to a ring.
     fn add(&mut self, ring: Ring, rest: &Rest) -> Result<(), Refusal>
         ensures value { seen (λ _. lists_of self.new) result ≡ and_then (added rest.now.at (pairs_in ring (lists_of self.old)) rest.now.bytes.now) (λ ps. Ok (puts ring ps (lists_of self.old))) }
-        ensures kept { is_err result ≡ true → self.new ≡ self.old }
+        ensures kept { OnErr result (self.new ≡ self.old) }
     {
         match ring {
             Ring::One => self.one.add(rest),

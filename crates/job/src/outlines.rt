@@ -1,5 +1,5 @@
 // From a job's pairs to two checked outlines.
-ghost use Rattle.std.specs.Prelude.{◌≡◌, ◌+◌, true, false, length, drop, is_ok, IfOk};
+ghost use Rattle.std.specs.Prelude.{◌≡◌, ◌+◌, length, drop, IfOk, OnErr};
 ghost use Rattle.plane.specs.Refusals.{refused};
 ghost use Rattle.job.specs.Format.{read_job};
 ghost use Rattle.job.specs.Outlined.{placed, Outlines};
@@ -24,7 +24,7 @@ pub fn read_outlines<'a>(
     store: &mut &'a mut [Corner],
 ) -> Result<TwoOutlines<'a>, Refusal>
     ensures answer { refused result ≡ placed (length store.old.now) (read_job bytes.now) }
-    ensures kept { is_ok result ≡ false → store.new ≡ store.old }
+    ensures kept { OnErr result (store.new ≡ store.old) }
     ensures held { IfOk result (λ made. Outlines (read_job bytes.now) made.one made.two) }
     ensures rest { IfOk result (λ made. store.new.now ≡ drop (length made.one + length made.two) store.old.now) }
 {

@@ -1,5 +1,5 @@
 // The corners of one ring of a job.
-ghost use Rattle.std.specs.Prelude.{◌≡◌, ◌≤◌, true, [], length, is_err};
+ghost use Rattle.std.specs.Prelude.{◌≡◌, ◌≤◌, [], length, OnErr};
 ghost use Rattle.plane.specs.Outlines.{most_corners};
 ghost use Rattle.job.specs.Format.{added, seen};
 
@@ -47,7 +47,7 @@ impl Pairs {
     /// Adds the pair of the corner's record that the rest begins with.
     pub fn add(&mut self, rest: &Rest) -> Result<(), Refusal>
         ensures value { seen (λ _. self.new) result ≡ added rest.now.at self.old rest.now.bytes.now }
-        ensures kept { is_err result ≡ true → self.new ≡ self.old }
+        ensures kept { OnErr result (self.new ≡ self.old) }
     {
         if self.pairs.is_full() {
             return Err(Refusal::TooManyCorners(rest.at));

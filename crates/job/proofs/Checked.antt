@@ -34,7 +34,3 @@ rings_pass bytes l split ring =
     let w = written_of bytes l split in
     let is : of_ring ring w.records ≡ pairs_in ring l = sym (ap (pairs_in ring) w.pairs ∙ ring_of ring w.records) in
     subst Passes is (record { fine = of_ring-fine ring w.records w.good.fine; few = w.good.few ring })
-
--- what is told where the places suffice
-pub all_placed : (places : ℕ) (l : Lists) → corners_in l ≤ places → placed places (Ok l) ≡ None
-all_placed places l h = grind (arith, common_steps)

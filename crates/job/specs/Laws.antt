@@ -10,7 +10,7 @@ use Rattle.job.specs.declared.reader.Kind.{Kind}
 use Rattle.job.specs.declared.reader.Kind.TheVariants.{Corner, End}
 use Rattle.job.specs.Format.{kind_byte, InTwoBytes, Record, bytes_of, written, Lists, pairs_in, read_job}
 
--- whether two rings are the same one
+-- whether two rings are the same one; a derived `==` has no word that a definition could cite
 abbrev pub same_ring : Ring → Ring → Bool
 same_ring One One = true
 same_ring One Two = false

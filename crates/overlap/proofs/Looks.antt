@@ -1,5 +1,7 @@
 -- What is found in the outlines of a job is what its pairs tell. Assumes nothing.
 use Rattle.std.proofs.Common.{◌≡◌, ℕ, ◌+◌, ◌≤◌, Bool, true, false, cond, List, [], ◌∷◌, map, get_or, Some, None, Ok, Err, Result, sym, refl, ap, ◌∙◌, ap₂, arith, w8, Fits}
+use Rattle.std.proofs.lemmas.Option.{cond_some}
+use Rattle.std.proofs.lemmas.Grind.{common_steps}
 use Rattle.plane.specs.declared.refusal.Refusal.{Refusal}
 use Rattle.plane.specs.Refusals.{Told, told, refused}
 use Rattle.plane.specs.Outlines.{Corners, most_corners}
@@ -9,22 +11,15 @@ use Rattle.decimetre.specs.Exact.{exact, admitted, near, corner_of}
 use Rattle.plane.specs.declared.ring.Ring.TheVariants.{One, Two}
 use Rattle.job.specs.Format.{Lists, read_job, and_then}
 use Rattle.job.specs.Outlined.{Outlines, placed, corners_in}
-use Rattle.job.proofs.Checked.{rings_pass, all_placed}
+use Rattle.job.proofs.Checked.{rings_pass}
 use Rattle.job.proofs.Splits.{split_of}
 use Rattle.overlap.specs.Look.{found_between, found_in, look_at}
-
-corner_is : (p : Pair) (c : Corner) → admitted p ≡ Some c → c ≡ corner_of p
-corner_is p c e = go (near (corner_of p)) e
-  where
-    go : (b : Bool) → cond b (Some (corner_of p)) None ≡ Some c → c ≡ corner_of p
-    go true e = cc
-    go false e = let z : ◌≡◌ {A = ℕ} 0 1 = cc in absurd (omega arith)
 
 corners_are : (ps : List Pair) (cs : List Corner) → Corners exact ps cs → cs ≡ map corner_of ps
 corners_are [] [] h = refl
 corners_are [] (c ∷ cs) h = absurd h
 corners_are (p ∷ ps) [] h = absurd h
-corners_are (p ∷ ps) (c ∷ cs) h = ap₂ ◌∷◌ (corner_is p c h.0) (corners_are ps cs h.1)
+corners_are (p ∷ ps) (c ∷ cs) h = ap₂ ◌∷◌ (sym (cond_some (near (corner_of p)) (corner_of p) c h.0).1) (corners_are ps cs h.1)
 
 -- what is counted in the outlines of a reading
 pub found_is : (answer : Result Lists Told) (one two : List Corner) → Outlines answer one two → Ok (found_between one two) ≡ and_then answer (λ l. Ok (found_in l))
@@ -41,6 +36,5 @@ refused_is bytes places r e fits size is tells = go (read_job bytes) refl (sym (
         let split = split_of bytes (Ok l) fits (sym from) in
         let few = (rings_pass bytes l split One).few in
         let few' = (rings_pass bytes l split Two).few in
-        let room : corners_in l ≤ places = omega arith in
-        let none = said ∙ all_placed places l room in
-        let z : ◌≡◌ {A = ℕ} 0 1 = cc in absurd (omega arith)
+        let none : placed places (Ok l) ≡ None = grind (arith, common_steps) in
+        absurd cc

@@ -9,7 +9,6 @@ use crate::near::NearCorner;
 use crate::triangle::{area2_of, side_of};
 use plane::answer::{Meet, Side};
 use plane::mark::overlap;
-use std::cmp::Ordering;
 
 // The denominator of the places on both edges: 0 where the edges are parallel. These two formulas are those of single precision, in the source's
 // order of terms: shared, their contracts would say of each `*`, `+` and `-` that it may be made and what it gives.
@@ -37,14 +36,17 @@ fn num_of(p: NearCorner, q: NearCorner, r: NearCorner) -> Measure
 fn portion_of(num: Measure, denom: Measure) -> Option<Mark>
     ensures { result ≡ portion num denom }
 {
-    match (num.cmp(&Measure::ZERO), num.cmp(&denom)) {
-        (Ordering::Less, _) | (_, Ordering::Greater) => None,
-        (Ordering::Equal, _) => Some(Mark::Start),
-        (Ordering::Greater, Ordering::Less) => Some(Mark::Inside(Fraction {
+    if num < Measure::ZERO || num > denom {
+        None
+    } else if num == Measure::ZERO {
+        Some(Mark::Start)
+    } else if num == denom {
+        Some(Mark::End)
+    } else {
+        Some(Mark::Inside(Fraction {
             upper: num.value as u32,
             lower: denom.value as u32,
-        })),
-        (Ordering::Greater, Ordering::Equal) => Some(Mark::End),
+        }))
     }
 }
 

@@ -11,9 +11,9 @@ use crate::words::{NONE, side_word};
 use plane::arithmetic::Arithmetic;
 use plane::ring::Ring;
 
-/// The crossings of two rings, each with its record, to be chained in words that are lent to the calls.
+/// The crossings of two rings, each with its record.
 #[derive(Drop)]
-pub(crate) struct Chains<'a, K: Arithmetic> {
+pub(crate) struct Crossings<'a, K: Arithmetic> {
     pub(crate) arith: &'a K,
     pub(crate) records: &'a [Record<K::Mark>],
     pub(crate) corners: Corners,
@@ -21,7 +21,15 @@ pub(crate) struct Chains<'a, K: Arithmetic> {
     ghost on_edges: { OnEdges corners records.now },
 }
 
-impl<K: Arithmetic> Chains<'_, K> {
+/// The crossings of two rings, and the words that they are chained in.
+#[derive(Drop)]
+pub(crate) struct Chains<'a, K: Arithmetic> {
+    pub(crate) crossings: Crossings<'a, K>,
+    pub(crate) words: &'a mut [u32],
+    ghost room: { crossings.corners.one + crossings.corners.two + 6 * length crossings.records.now ≤ length words.now },
+}
+
+impl<K: Arithmetic> Crossings<'_, K> {
     // Whether crossing y stands before crossing x on the ring, or level with it.
     fn stands_before(&self, ring: Ring, y: usize, x: usize) -> bool
         requires y { y < length self.now.records.now }
@@ -32,21 +40,22 @@ impl<K: Arithmetic> Chains<'_, K> {
         let there = self.records[x].spot(ring);
         self.arith.not_after(here.mark, there.mark)
     }
+}
 
+impl<K: Arithmetic> Chains<'_, K> {
     // The slot of the chain of its edge at which crossing id is to be put in: behind all that do not stand after it.
-    fn find(&self, words: &[u32], ring: Ring, id: u32) -> usize
-        requires known { id < length self.now.records.now }
-        requires room { self.now.corners.one + self.now.corners.two + 1 + 6 * id < length words.now }
-        ensures within { result < base ring self.now.corners + 6 * id }
-        ensures finds { (list : List ℕ) → Links words.now (base ring self.now.corners) (start ring self.now.corners + edge_at self.now.records.now ring id) list → Below id list → length list ≤ id → result ≡ spot (not_after_at (K.Arithmetic.meaning.not_after self.now.arith.now) self.now.records.now ring) (base ring self.now.corners) id (start ring self.now.corners + edge_at self.now.records.now ring id) list }
+    fn find(&self, ring: Ring, id: u32) -> usize
+        requires { id < length self.now.crossings.records.now }
+        ensures within { result < base ring self.now.crossings.corners + 6 * id }
+        ensures finds { (list : List ℕ) → Links self.now.words.now (base ring self.now.crossings.corners) (start ring self.now.crossings.corners + edge_at self.now.crossings.records.now ring id) list → Below id list → length list ≤ id → result ≡ spot (not_after_at (K.Arithmetic.meaning.not_after self.now.crossings.arith.now) self.now.crossings.records.now ring) (base ring self.now.crossings.corners) id (start ring self.now.crossings.corners + edge_at self.now.crossings.records.now ring id) list }
     {
-        let base = self.corners.base(ring);
-        let edge = self.records[id as usize].spot(ring).edge;
-        let mut at = self.corners.start(ring) + edge as usize;
-        // Counted, since words that are no chain could lead round in a circle.
+        let base = self.crossings.corners.base(ring);
+        let edge = self.crossings.records[id as usize].spot(ring).edge;
+        let mut at = self.crossings.corners.start(ring) + edge as usize;
+        // Counted, since the words may be any words, which could lead round in a circle.
         for _turn in 0..id {
-            let y = words[at];
-            if y >= id || !self.stands_before(ring, y as usize, id as usize) {
+            let y = self.words[at];
+            if y >= id || !self.crossings.stands_before(ring, y as usize, id as usize) {
                 break;
             }
             at = base + 6 * y as usize;
@@ -55,41 +64,43 @@ impl<K: Arithmetic> Chains<'_, K> {
     }
 
     // Puts crossing id into its place in the chain of its edge on the ring.
-    fn link(&self, words: &mut [u32], ring: Ring, id: u32)
-        requires known { id < length self.now.records.now }
-        requires room { self.now.corners.one + self.now.corners.two + 1 + 6 * id < length words.old }
-        ensures own { Linked (K.Arithmetic.meaning.not_after self.now.arith.now) self.now.corners self.now.records.now ring id words.old → Linked (K.Arithmetic.meaning.not_after self.now.arith.now) self.now.corners self.now.records.now ring (id + 1) words.new }
-        ensures others { (n : ℕ) → Linked (K.Arithmetic.meaning.not_after self.now.arith.now) self.now.corners self.now.records.now ring id words.old → Linked (K.Arithmetic.meaning.not_after self.now.arith.now) self.now.corners self.now.records.now (other ring) n words.old → Linked (K.Arithmetic.meaning.not_after self.now.arith.now) self.now.corners self.now.records.now (other ring) n words.new }
-        ensures notes { Linked (K.Arithmetic.meaning.not_after self.now.arith.now) self.now.corners self.now.records.now ring id words.old → Unlinked self.now.corners words.old words.new }
-        ensures rest { drop (self.now.corners.one + self.now.corners.two + 6 * id + 2) words.new ≡ drop (self.now.corners.one + self.now.corners.two + 6 * id + 2) words.old }
+    fn link(&mut self, ring: Ring, id: u32)
+        requires { id < length self.old.crossings.records.now }
+        ensures same { (self.new.crossings ≡ self.old.crossings) × (self.new.words.ghost_name ≡ self.old.words.ghost_name) }
+        ensures own { Linked (K.Arithmetic.meaning.not_after self.old.crossings.arith.now) self.old.crossings.corners self.old.crossings.records.now ring id self.old.words.now → Linked (K.Arithmetic.meaning.not_after self.old.crossings.arith.now) self.old.crossings.corners self.old.crossings.records.now ring (id + 1) self.new.words.now }
+        ensures others { (n : ℕ) → Linked (K.Arithmetic.meaning.not_after self.old.crossings.arith.now) self.old.crossings.corners self.old.crossings.records.now ring id self.old.words.now → Linked (K.Arithmetic.meaning.not_after self.old.crossings.arith.now) self.old.crossings.corners self.old.crossings.records.now (other ring) n self.old.words.now → Linked (K.Arithmetic.meaning.not_after self.old.crossings.arith.now) self.old.crossings.corners self.old.crossings.records.now (other ring) n self.new.words.now }
+        ensures notes { Linked (K.Arithmetic.meaning.not_after self.old.crossings.arith.now) self.old.crossings.corners self.old.crossings.records.now ring id self.old.words.now → Unlinked self.old.crossings.corners self.old.words.now self.new.words.now }
+        ensures rest { drop (self.old.crossings.corners.one + self.old.crossings.corners.two + 6 * id + 2) self.new.words.now ≡ drop (self.old.crossings.corners.one + self.old.crossings.corners.two + 6 * id + 2) self.old.words.now }
     {
-        let at = self.find(words, ring, id);
-        words[self.corners.base(ring) + 6 * id as usize] = words[at];
-        words[at] = id;
+        let at = self.find(ring, id);
+        self.words[self.crossings.corners.base(ring) + 6 * id as usize] = self.words[at];
+        self.words[at] = id;
     }
 
     // Puts crossing id into its place along both rings, and writes its other words.
-    fn add(&self, words: &mut [u32], id: u32)
-        requires known { id < length self.now.records.now }
-        requires room { self.now.corners.one + self.now.corners.two + 6 * id + 6 ≤ length words.old }
-        ensures told { Chained (K.Arithmetic.meaning.not_after self.now.arith.now) self.now.corners self.now.records.now id words.old → Chained (K.Arithmetic.meaning.not_after self.now.arith.now) self.now.corners self.now.records.now (id + 1) words.new }
-        ensures rest { drop (self.now.corners.one + self.now.corners.two + 6 * id + 6) words.new ≡ drop (self.now.corners.one + self.now.corners.two + 6 * id + 6) words.old }
+    fn add(&mut self, id: u32)
+        requires { id < length self.old.crossings.records.now }
+        ensures same { (self.new.crossings ≡ self.old.crossings) × (self.new.words.ghost_name ≡ self.old.words.ghost_name) }
+        ensures told { Chained (K.Arithmetic.meaning.not_after self.old.crossings.arith.now) self.old.crossings.corners self.old.crossings.records.now id self.old.words.now → Chained (K.Arithmetic.meaning.not_after self.old.crossings.arith.now) self.old.crossings.corners self.old.crossings.records.now (id + 1) self.new.words.now }
+        ensures rest { drop (self.old.crossings.corners.one + self.old.crossings.corners.two + 6 * id + 6) self.new.words.now ≡ drop (self.old.crossings.corners.one + self.old.crossings.corners.two + 6 * id + 6) self.old.words.now }
     {
-        self.link(words, Ring::One, id);
-        self.link(words, Ring::Two, id);
-        let k = self.corners.one + self.corners.two + 6 * id as usize;
-        describe(words, k, &self.records[id as usize]);
+        let records = self.crossings.records;
+        let k = self.crossings.corners.one + self.crossings.corners.two + 6 * id as usize;
+        self.link(Ring::One, id);
+        self.link(Ring::Two, id);
+        describe(self.words, k, &records[id as usize]);
     }
 
     /// Tells all crossings in words, one after another.
-    pub(crate) fn chain_all(&self, words: &mut [u32])
-        requires { self.now.corners.one + self.now.corners.two + 6 * length self.now.records.now ≤ length words.old }
-        ensures told { Chained (K.Arithmetic.meaning.not_after self.now.arith.now) self.now.corners self.now.records.now (length self.now.records.now) words.new }
-        ensures rest { drop (self.now.corners.one + self.now.corners.two + 6 * length self.now.records.now) words.new ≡ drop (self.now.corners.one + self.now.corners.two + 6 * length self.now.records.now) words.old }
+    pub(crate) fn chain_all(&mut self)
+        ensures same { (self.new.crossings ≡ self.old.crossings) × (self.new.words.ghost_name ≡ self.old.words.ghost_name) }
+        ensures told { Chained (K.Arithmetic.meaning.not_after self.old.crossings.arith.now) self.old.crossings.corners self.old.crossings.records.now (length self.old.crossings.records.now) self.new.words.now }
+        ensures rest { drop (self.old.crossings.corners.one + self.old.crossings.corners.two + 6 * length self.old.crossings.records.now) self.new.words.now ≡ drop (self.old.crossings.corners.one + self.old.crossings.corners.two + 6 * length self.old.crossings.records.now) self.old.words.now }
     {
-        words[..self.corners.one + self.corners.two].fill(NONE);
-        for id in 0..self.records.len() as u32 {
-            self.add(words, id);
+        self.words[..self.crossings.corners.one + self.crossings.corners.two].fill(NONE);
+        // By number, since a chain is told by the numbers of its crossings.
+        for id in 0..self.crossings.records.len() as u32 {
+            self.add(id);
         }
     }
 }

@@ -8,7 +8,7 @@ ghost use Rattle.chart.specs.Crossings.{crossings};
 ghost use Rattle.chart.specs.Records.{records_of};
 ghost use Rattle.chart.specs.Words.{ToldBy};
 
-use crate::chain::Chains;
+use crate::chain::{Chains, Crossings};
 use crate::count::count;
 use crate::fill::fill;
 use crate::layout::Corners;
@@ -53,12 +53,14 @@ pub fn compute_sorted_edge_intersections<K: Arithmetic>(
     let found = count(arith, one, two);
     refuse(corners, found, records.len(), words.len())?;
     fill(arith, one, two, records);
-    let chains = Chains {
+    let records = &records[..found];
+    let crossings = Crossings {
         arith,
-        records: &records[..found],
+        records,
         corners,
     };
-    chains.chain_all(words);
+    let mut chains = Chains { crossings, words };
+    chains.chain_all();
     Ok(found)
 }
 

@@ -1,7 +1,7 @@
-use Rattle.std.proofs.Common.{◌++◌, length, drop, is_ok, sym, ap, ◌∙◌, subst, arith}
-use Rattle.chart.specs.Charts.{inner_where}
+use Rattle.std.proofs.Common.{◌++◌, length, drop, is_ok, rules, sym, ap, ◌∙◌, subst, arith}
+use Rattle.chart.specs.Charts.{chart_of, inner_where}
 use Rattle.chart.specs.Records.{records_of}
-use Rattle.chart.specs.Words.{Chained, OnEdges}
+use Rattle.chart.specs.Words.{Chained, OnEdges, ToldBy}
 use Rattle.chart.proofs.Charted.{edge_low}
 use Rattle.chart.proofs.Noting.{length-records, front_written}
 use Rattle.chart.proofs.Pairs.{few_crossings}
@@ -16,8 +16,8 @@ pub fill-requires : goal.fill-requires
 fill-requires g c =
     omega (arith, length-records g.K.Arithmetic.meaning c.args.arith.now c.args.one.now c.args.two.now, c.count-found.ensures, (c.refuse.ensures.fits (ap is_ok c.in_ok-refuse.was)).2)
 
-pub invariant_of-chains : goal.invariant_of-chains
-invariant_of-chains g c =
+pub invariant_of-crossings : goal.invariant_of-crossings
+invariant_of-crossings g c =
     let m = g.K.Arithmetic.meaning in
     let a = c.args.arith.now in
     let one = c.args.one.now in
@@ -42,6 +42,7 @@ returns-clause-told g c =
     let front = front_written m a one two c.args.records.now c.fill.new.records c.count-found.result c.count-found.ensures c.fill.ensures in
     let rs = records_of m a one two in
     let le = m.not_after a in
-    let ws = c.chain_all.new.words in
-    λ _. told_by le (record { one = length one; two = length two }) rs (inner_where m a (length rs) one two) ws
-    (subst (λ n. Chained le n rs (length rs) ws) c.of-corners.ensures.value (subst (λ cs. Chained le c.of-corners.result cs (length cs) ws) front c.chain_all.ensures.told))
+    let ws = c.chain_all.new.self.words.now in
+    let told : ToldBy ws (chart_of m a one two) = told_by le (record { one = length one; two = length two }) rs (inner_where m a (length rs) one two) ws
+    (subst (λ n. Chained le n rs (length rs) ws) c.of-corners.ensures.value (subst (λ cs. Chained le c.of-corners.result cs (length cs) ws) front c.chain_all.ensures.told)) in
+    λ _. search rules

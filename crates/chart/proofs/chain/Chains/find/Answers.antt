@@ -10,24 +10,24 @@ use Rattle.chart.proofs.chain.Chains.find.Goals.{then-y-id-via-then-y-id, then-y
 
 pub loop-turn-init : goal.loop-turn-init
 loop-turn-init g c =
-    let cs = c.args.self.now.records.now in
-    let n = c.args.self.now.corners in
+    let cs = c.args.self.now.crossings.records.now in
+    let n = c.args.self.now.crossings.corners in
     let ring = c.args.ring in
     let id = c.args.id in
-    let edge : c.spot.result.now.edge ≡ edge_at cs ring id = ap (λ (s : Spot g.row.K-Mark.Denot). s.edge) (c.spot.ensures ∙ ap (on ring) (sym c.index-self-id.is)) ∙ edge_read_lem cs ring id c.index-self-id.result c.requires.known c.index-self-id.is in
+    let edge : c.spot.result.now.edge ≡ edge_at cs ring id = ap (λ (s : Spot g.row.K-Mark.Denot). s.edge) (c.spot.ensures ∙ ap (on ring) (sym c.index-self-id.is)) ∙ edge_read_lem cs ring id c.index-self-id.result c.requires c.index-self-id.is in
     let slot : c.start.result + c.spot.result.now.edge ≡ start ring n + edge_at cs ring id = omega (arith, c.start.ensures, edge) in (
-      omega (arith, slot, c.base-base.ensures, room ring n, c.args.self.now.on_edges ring id c.requires.known),
-      walked_none (not_after_at (g.K.Arithmetic.meaning.not_after c.args.self.now.arith.now) cs ring) c.args.words.now (base ring n) id (start ring n + edge_at cs ring id) _ slot,
+      omega (arith, slot, c.base-base.ensures, room ring n, c.args.self.now.crossings.on_edges ring id c.requires),
+      walked_none (not_after_at (g.K.Arithmetic.meaning.not_after c.args.self.now.crossings.arith.now) cs ring) c.args.self.now.words.now (base ring n) id (start ring n + edge_at cs ring id) _ slot,
     )
 
 pub loop-turn-preserved : goal.loop-turn-preserved
 loop-turn-preserved g c =
-    let cs = c.args.self.now.records.now in
-    let n = c.args.self.now.corners in
+    let cs = c.args.self.now.crossings.records.now in
+    let n = c.args.self.now.crossings.corners in
     let ring = c.args.ring in
     let id = c.args.id in
-    let ws = c.args.words.now in
-    let goes = not_after_at (g.K.Arithmetic.meaning.not_after c.args.self.now.arith.now) cs ring in
+    let ws = c.args.self.now.words.now in
+    let goes = not_after_at (g.K.Arithmetic.meaning.not_after c.args.self.now.crossings.arith.now) cs ring in
     let slot = start ring n + edge_at cs ring id in
     let y = get_or ws c.loop-turn.at 0 in (
       omega arith,
@@ -37,10 +37,10 @@ loop-turn-preserved g c =
 
 pub returns-then-y-id-clause-finds : goal.returns-then-y-id-clause-finds
 returns-then-y-id-clause-finds g c =
-    let cs = c.args.self.now.records.now in
-    let n = c.args.self.now.corners in
+    let cs = c.args.self.now.crossings.records.now in
+    let n = c.args.self.now.crossings.corners in
     let ring = c.args.ring in
-    walked_stop (not_after_at (g.K.Arithmetic.meaning.not_after c.args.self.now.arith.now) cs ring) c.args.words.now (base ring n) c.args.id (start ring n + edge_at cs ring c.args.id) c.loop-turn.at c.loop-turn._turn
+    walked_stop (not_after_at (g.K.Arithmetic.meaning.not_after c.args.self.now.crossings.arith.now) cs ring) c.args.self.now.words.now (base ring n) c.args.id (start ring n + edge_at cs ring c.args.id) c.loop-turn.at c.loop-turn._turn
     (λ lt.
     elim c.then-y-id.branch [
       | then-y-id-via-then-y-id w ↦ absurd (omega (arith, w.if-y-id.true))

@@ -6,7 +6,7 @@ use Rattle.chart.proofs.chain.Chains.find.Given as goal
 
 abbrev pub invariant-loop-turn : goal.invariant-loop-turn
 invariant-loop-turn g l =
-    let cs = l.self.records.now in
-    let n = l.self.corners in
+    let cs = l.self.crossings.records.now in
+    let n = l.self.crossings.corners in
     (l.at < l.base + 6 * l.id)
-    × Walked (not_after_at (g.K.Arithmetic.meaning.not_after l.self.arith.now) cs l.ring) l.words (base l.ring n) l.id (start l.ring n + edge_at cs l.ring l.id) l.at l._turn
+    × Walked (not_after_at (g.K.Arithmetic.meaning.not_after l.self.crossings.arith.now) cs l.ring) l.self.words.now (base l.ring n) l.id (start l.ring n + edge_at cs l.ring l.id) l.at l._turn

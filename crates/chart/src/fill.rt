@@ -8,16 +8,16 @@ use plane::arithmetic::Arithmetic;
 use plane::edge::Edge;
 use plane::outline::Outline;
 
-// The record of ring one's edge i and ring two's edge j, if they cross.
+// The record of an edge of ring one and an edge of ring two, each behind its number, if they cross.
 fn crossing<K: Arithmetic>(
     arith: &K,
-    i: u32,
-    e: Edge<K::Corner>,
-    j: u32,
-    f: Edge<K::Corner>,
+    e: (u32, Edge<K::Corner>),
+    f: (u32, Edge<K::Corner>),
 ) -> Option<Record<K::Mark>>
-    ensures { result ≡ record_at K.Arithmetic.meaning arith.now (i, e) (j, f) }
+    ensures { result ≡ record_at K.Arithmetic.meaning arith.now e f }
 {
+    let (i, e) = e;
+    let (j, f) = f;
     match arith.meet(e.from, e.to, f.from, f.to) {
         Meet::Crossing(m, n) => Some(Record {
             one: Spot { edge: i, mark: m },
@@ -38,10 +38,11 @@ pub(crate) fn fill<K: Arithmetic>(
     requires { length (records_of K.Arithmetic.meaning arith.now one.now two.now) ≤ length records.old }
     ensures { records.new ≡ records_of K.Arithmetic.meaning arith.now one.now two.now ++ drop (length (records_of K.Arithmetic.meaning arith.now one.now two.now)) records.old }
 {
+    // Counted: of a slice lent to an adapter of iter_mut no element is known, and a loop over one flat_map of all pairs is not proved.
     let mut found = 0;
     for (i, e) in one.edges().enumerate() {
         for (j, f) in two.edges().enumerate() {
-            if let Some(record) = crossing(arith, i as u32, e, j as u32, f) {
+            if let Some(record) = crossing(arith, (i as u32, e), (j as u32, f)) {
                 records[found] = record;
                 found += 1;
             }

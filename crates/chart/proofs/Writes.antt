@@ -118,12 +118,12 @@ put_keeps goes base x slot list ws ws' p k off other =
     p.2 k (λ e. off (subst (On base slot list) (sym e) (spot_on goes base x slot list))) other
 
 -- the two writes that put x into its place
-pub placed : (goes : ℕ → ℕ → Bool) (base x slot at b : ℕ) (ws : List ℕ) → b ≡ base → slot < base → at < base + 6 * x → base + 6 * x < length ws
+pub placed : (goes : ℕ → ℕ → Bool) (base x slot at p : ℕ) (ws : List ℕ) → p ≡ base + 6 * x → slot < base → at < base + 6 * x → base + 6 * x < length ws
     → ((list : List ℕ) → Links ws base slot list → Below x list → length list ≤ x → at ≡ spot goes base x slot list)
-    → Puts goes ws (set (set ws (b + 6 * x) (get_or ws at 0)) at x) base slot x × Keeps ws (set (set ws (b + 6 * x) (get_or ws at 0)) at x) base slot x
-placed goes base x slot at b ws same first within room finds =
-    let ws' : List ℕ = set (set ws (b + 6 * x) (get_or ws at 0)) at x in
-    let put : Put ws ws' base x at = subst (λ (v : ℕ). Put ws (set (set ws (v + 6 * x) (get_or ws at 0)) at x) base x at) (sym same) (put_writes ws base x at within room) in (
+    → Puts goes ws (set (set ws p (get_or ws at 0)) at x) base slot x × Keeps ws (set (set ws p (get_or ws at 0)) at x) base slot x
+placed goes base x slot at p ws same first within room finds =
+    let ws' : List ℕ = set (set ws p (get_or ws at 0)) at x in
+    let put : Put ws ws' base x at = subst (λ (v : ℕ). Put ws (set (set ws v (get_or ws at 0)) at x) base x at) (sym same) (put_writes ws base x at within room) in (
       λ list h b o n. put_links goes base x slot list ws ws' (λ y i. omega arith) (omega arith) b o h (put_at ws ws' base x at (spot goes base x slot list) (finds list h b n) put),
       λ list h b n. put_keeps goes base x slot list ws ws' (put_at ws ws' base x at (spot goes base x slot list) (finds list h b n) put),
     )

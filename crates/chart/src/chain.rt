@@ -49,7 +49,6 @@ impl<K: Arithmetic> Chains<'_, K> {
         ensures within { result < base ring self.now.crossings.corners + 6 * id }
         ensures finds { (list : List ℕ) → Links self.now.words.now (base ring self.now.crossings.corners) (start ring self.now.crossings.corners + edge_at self.now.crossings.records.now ring id) list → Below id list → length list ≤ id → result ≡ spot (not_after_at (K.Arithmetic.meaning.not_after self.now.crossings.arith.now) self.now.crossings.records.now ring) (base ring self.now.crossings.corners) id (start ring self.now.crossings.corners + edge_at self.now.crossings.records.now ring id) list }
     {
-        let base = self.crossings.corners.base(ring);
         let edge = self.crossings.records[id as usize].spot(ring).edge;
         let mut at = self.crossings.corners.start(ring) + edge as usize;
         // Counted, since the words may be any words, which could lead round in a circle.
@@ -58,7 +57,7 @@ impl<K: Arithmetic> Chains<'_, K> {
             if y >= id || !self.crossings.stands_before(ring, y as usize, id as usize) {
                 break;
             }
-            at = base + 6 * y as usize;
+            at = self.crossings.corners.pointer(ring, y);
         }
         at
     }
@@ -73,7 +72,7 @@ impl<K: Arithmetic> Chains<'_, K> {
         ensures rest { drop (self.old.crossings.corners.one + self.old.crossings.corners.two + 6 * id + 2) self.new.words.now ≡ drop (self.old.crossings.corners.one + self.old.crossings.corners.two + 6 * id + 2) self.old.words.now }
     {
         let at = self.find(ring, id);
-        self.words[self.crossings.corners.base(ring) + 6 * id as usize] = self.words[at];
+        self.words[self.crossings.corners.pointer(ring, id)] = self.words[at];
         self.words[at] = id;
     }
 
@@ -85,7 +84,7 @@ impl<K: Arithmetic> Chains<'_, K> {
         ensures rest { drop (self.old.crossings.corners.one + self.old.crossings.corners.two + 6 * id + 6) self.new.words.now ≡ drop (self.old.crossings.corners.one + self.old.crossings.corners.two + 6 * id + 6) self.old.words.now }
     {
         let records = self.crossings.records;
-        let k = self.crossings.corners.one + self.crossings.corners.two + 6 * id as usize;
+        let k = self.crossings.corners.pointer(Ring::One, id);
         self.link(Ring::One, id);
         self.link(Ring::Two, id);
         describe(self.words, k, &records[id as usize]);
@@ -97,7 +96,7 @@ impl<K: Arithmetic> Chains<'_, K> {
         ensures told { Chained (K.Arithmetic.meaning.not_after self.old.crossings.arith.now) self.old.crossings.corners self.old.crossings.records.now (length self.old.crossings.records.now) self.new.words.now }
         ensures rest { drop (self.old.crossings.corners.one + self.old.crossings.corners.two + 6 * length self.old.crossings.records.now) self.new.words.now ≡ drop (self.old.crossings.corners.one + self.old.crossings.corners.two + 6 * length self.old.crossings.records.now) self.old.words.now }
     {
-        self.words[..self.crossings.corners.one + self.crossings.corners.two].fill(NONE);
+        self.words[..self.crossings.corners.slots()].fill(NONE);
         // By number, since a chain is told by the numbers of its crossings.
         for id in 0..self.crossings.records.len() as u32 {
             self.add(id);

@@ -11,23 +11,25 @@ ghost use Rattle.chart.specs.Words.{ToldBy};
 use crate::chain::{Chains, Crossings};
 use crate::count::count;
 use crate::fill::fill;
-use crate::layout::Corners;
+use crate::layout::{Corners, WORDS_PER_CROSSING};
 use crate::record::Record;
 use plane::arithmetic::Arithmetic;
 use plane::outline::Outline;
 use plane::refusal::Refusal;
 
+// How many words are asked for beyond those that tell the chart, and not used.
+const MORE_WORDS: usize = 8;
+
 // Refuses tables of these lengths that do not take so many crossings.
 fn refuse(corners: Corners, found: usize, records: usize, words: usize) -> Result<(), Refusal>
-    requires few { (corners.one ≤ most_corners) × (corners.two ≤ most_corners) }
-    requires small { found ≤ 1048576 }
+    requires { found ≤ most_corners * most_corners }
     ensures answer { refused result ≡ refused_for corners.one corners.two found records words }
     ensures fits { is_ok result ≡ true → (0 < corners.one) × (0 < corners.two) × (found ≤ records) × (6 * found + corners.one + corners.two + 8 ≤ words) }
 {
     if corners.one == 0 || corners.two == 0 {
         return Err(Refusal::NoCorners);
     }
-    if records < found || words < 6 * found + corners.one + corners.two + 8 {
+    if records < found || words < WORDS_PER_CROSSING * found + corners.slots() + MORE_WORDS {
         return Err(Refusal::TablesTooSmall);
     }
     Ok(())

@@ -1,5 +1,5 @@
 // Where the chains of a chart lie in its words.
-ghost use Rattle.std.specs.Prelude.{◌≡◌, ◌+◌, ◌<◌, ◌≤◌, length};
+ghost use Rattle.std.specs.Prelude.{◌≡◌, ◌+◌, ◌*◌, ◌≤◌, length};
 ghost use Rattle.plane.specs.Outlines.{most_corners};
 ghost use Rattle.chart.specs.Words.{base, start};
 
@@ -7,11 +7,14 @@ use plane::arithmetic::Arithmetic;
 use plane::outline::Outline;
 use plane::ring::Ring;
 
+/// How many words tell a crossing.
+pub(crate) const WORDS_PER_CROSSING: usize = 6;
+
 /// How many corners the rings have, each as many as edges.
 #[derive(Clone, Copy)]
 pub(crate) struct Corners {
-    pub(crate) one: usize,
-    pub(crate) two: usize,
+    pub(crate) one: u32,
+    pub(crate) two: u32,
 }
 
 impl Corners {
@@ -21,9 +24,16 @@ impl Corners {
         ensures few { (result.one ≤ most_corners) × (result.two ≤ most_corners) }
     {
         Corners {
-            one: one.corners().len(),
-            two: two.corners().len(),
+            one: one.corners().len() as u32,
+            two: two.corners().len() as u32,
         }
+    }
+
+    /// How many slots the chains have, one for each edge.
+    pub(crate) fn slots(self) -> usize
+        ensures { result ≡ self.one + self.two }
+    {
+        self.one as usize + self.two as usize
     }
 
     /// The slot of the ring's first edge.
@@ -32,18 +42,18 @@ impl Corners {
     {
         match ring {
             Ring::One => 0,
-            Ring::Two => self.one,
+            Ring::Two => self.one as usize,
         }
     }
 
-    /// Where the pointer of crossing 0 along this ring stands.
-    pub(crate) fn base(self, ring: Ring) -> usize
-        requires { self.one + self.two + 1 < 18446744073709551616 }
-        ensures { result ≡ base ring self }
+    /// Where the pointer of a crossing along this ring stands.
+    pub(crate) fn pointer(self, ring: Ring, id: u32) -> usize
+        ensures { result ≡ base ring self + 6 * id }
     {
-        match ring {
-            Ring::One => self.one + self.two,
-            Ring::Two => self.one + self.two + 1,
-        }
+        let first = match ring {
+            Ring::One => self.slots(),
+            Ring::Two => self.slots() + 1,
+        };
+        first + WORDS_PER_CROSSING * id as usize
     }
 }

@@ -8,8 +8,8 @@ use Rattle.chart.proofs.Pairs.{few_crossings}
 use Rattle.chart.proofs.Telling.{told_by}
 use Rattle.chart.proofs.intersections.compute_sorted_edge_intersections.Goals as goal
 
-pub refuse-requires-clause-small : goal.refuse-requires-clause-small
-refuse-requires-clause-small g c =
+pub refuse-requires : goal.refuse-requires
+refuse-requires g c =
     omega (arith, c.count-found.ensures, few_crossings g.K.Arithmetic.meaning c.args.arith.now c.args.one.now c.args.two.now _ c.of-corners.ensures.value c.of-corners.ensures.few)
 
 pub fill-requires : goal.fill-requires

@@ -18,10 +18,11 @@ returns-clause-told g c =
     let others = rw same at c.link-2.ensures.others in
     let notes = rw same at c.link-2.ensures.notes in
     let room = rw (c.link-2.ensures.same.0, same) at c.link-2.new.self.room in
+    let is = rw c.pointer-k.ensures at c.describe.ensures in
     λ told.
     let one = told.0 One in
     let two = c.link.ensures.others id one (told.0 Two) in
-    chained_more n cs id le w2 c.describe.new.words c.index-records-id.result (omega (arith, room, c.requires)) c.requires c.index-records-id.is c.describe.ensures
+    chained_more n cs id le w2 c.describe.new.words c.index-records-id.result (omega (arith, room, c.requires)) c.requires c.index-records-id.is is
     (others (id + 1) two (c.link.ensures.own one)) (own two)
     (described_kept n cs id w1 w2 (notes two) (described_kept n cs id ws w1 (c.link.ensures.notes one) told.1))
 
@@ -32,5 +33,6 @@ returns-clause-rest g c =
     let w1 = c.link.new.self.words.now in
     let w2 = c.link-2.new.self.words.now in
     let rest = rw c.link.ensures.same.0 at c.link-2.ensures.rest in
-    ap (drop (k + 6)) c.describe.ensures ∙ described_rest w2 k c.index-records-id.result ∙ drop_further w2 w1 (k + 2) (k + 6) (omega arith) rest
+    let is = rw c.pointer-k.ensures at c.describe.ensures in
+    ap (drop (k + 6)) is ∙ described_rest w2 k c.index-records-id.result ∙ drop_further w2 w1 (k + 2) (k + 6) (omega arith) rest
     ∙ drop_further w1 c.args.self.now.words.now (k + 2) (k + 6) (omega arith) c.link.ensures.rest

@@ -16,7 +16,7 @@ loop-turn-init g c =
     let id = c.args.id in
     let edge : c.spot.result.now.edge ≡ edge_at cs ring id = ap (λ (s : Spot g.row.K-Mark.Denot). s.edge) (c.spot.ensures ∙ ap (on ring) (sym c.index-self-id.is)) ∙ edge_read_lem cs ring id c.index-self-id.result c.requires c.index-self-id.is in
     let slot : c.start.result + c.spot.result.now.edge ≡ start ring n + edge_at cs ring id = omega (arith, c.start.ensures, edge) in (
-      omega (arith, slot, c.base-base.ensures, room ring n, c.args.self.now.crossings.on_edges ring id c.requires),
+      omega (arith, slot, room ring n, c.args.self.now.crossings.on_edges ring id c.requires),
       walked_none (not_after_at (g.K.Arithmetic.meaning.not_after c.args.self.now.crossings.arith.now) cs ring) c.args.self.now.words.now (base ring n) id (start ring n + edge_at cs ring id) _ slot,
     )
 
@@ -31,7 +31,7 @@ loop-turn-preserved g c =
     let slot = start ring n + edge_at cs ring id in
     let y = get_or ws c.loop-turn.at 0 in (
       omega arith,
-      subst (λ b. Walked goes ws (base ring n) id slot (b + 6 * y) (c.loop-turn._turn + 1)) (sym c.base-base.ensures)
+      subst (λ b. Walked goes ws (base ring n) id slot b (c.loop-turn._turn + 1)) (sym c.pointer-at.ensures)
           (walked_more goes ws (base ring n) id slot c.loop-turn.at c.loop-turn._turn y (omega arith) refl (omega arith) (sym c.if-not-stands_before.ensures) c.loop-turn.invariant.1),
     )
 

@@ -8,5 +8,5 @@ abbrev pub invariant-loop-turn : goal.invariant-loop-turn
 invariant-loop-turn g l =
     let cs = l.self.crossings.records.now in
     let n = l.self.crossings.corners in
-    (l.at < l.base + 6 * l.id)
+    (l.at < base l.ring n + 6 * l.id)
     × Walked (not_after_at (g.K.Arithmetic.meaning.not_after l.self.crossings.arith.now) cs l.ring) l.self.words.now (base l.ring n) l.id (start l.ring n + edge_at cs l.ring l.id) l.at l._turn

@@ -8,14 +8,14 @@ use plane::edge::Edge;
 use plane::ring::Ring;
 
 /// Where a crossing lies on a ring: the number of the edge, and the mark on it.
-#[derive(Clone, Copy)]
+#[derive(Clone, Copy, Debug, PartialEq)]
 pub struct Spot<M> {
     pub edge: u32,
     pub mark: M,
 }
 
 /// A crossing: where it lies on either ring, and the ring along which a loop leaves it.
-#[derive(Clone, Copy)]
+#[derive(Clone, Copy, Debug, PartialEq)]
 pub struct Record<M> {
     pub one: Spot<M>,
     pub two: Spot<M>,

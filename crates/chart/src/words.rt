@@ -1,4 +1,4 @@
-// The words that tell a chart. They are numbers, since the tables that hold them are lent by the caller.
+// The words that tell a chart. They are numbers, since the size of the lent table is counted in words of 32 bits: a chain, a side and a flag are such words.
 ghost use Rattle.std.specs.Prelude.{◌≡◌};
 ghost use Rattle.chart.specs.Words.{side_word};
 

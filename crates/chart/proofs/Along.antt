@@ -1,14 +1,11 @@
 -- The list along an edge: who is in it, and its order. Assumes nothing.
 use Rattle.std.proofs.Common.{◌≡◌, ℕ, zero, suc, ◌<◌, ◌≤◌, Bool, true, false, eqb, ◌⊎◌, List, [], ◌∷◌, length, sym, refl, ap, ◌∙◌, subst, inl, inr, ⊎_elim, arith}
 use Rattle.std.proofs.lemmas.Bool.{cond_both, eqb-true, eqb-false, both_ways, cases_eq}
+use Rattle.std.proofs.ByRecursion.{All-weaker}
 use Rattle.rules.specs.Lists.{In, Once}
 use Rattle.chart.specs.Chains.{Below, insert, along}
 use Rattle.chart.specs.Order.{Lawful, Ordered}
 use Rattle.chart.proofs.Writes.{below_in}
-
-pub below_more : (n m : ℕ) (list : List ℕ) → n ≤ m → Below n list → Below m list
-below_more n m [] h b = tt
-below_more n m (x ∷ xs) h b = (omega (arith, b.0), below_more n m xs h b.1)
 
 -- who is in it
 pub insert_in : (goes : ℕ → ℕ → Bool) (x : ℕ) (list : List ℕ) (z : ℕ) → In z (insert goes x list) → (z ≡ x) ⊎ In z list
@@ -73,7 +70,7 @@ module _ (goes : ℕ → ℕ → Bool) (edge_of : ℕ → ℕ) (e : ℕ) where
   pub along_below : (n : ℕ) → Below n (along goes edge_of e n)
   along_below zero = tt
   along_below (suc n) =
-      let b : Below (suc n) (along goes edge_of e n) = below_more n (suc n) _ (omega arith) (along_below n) in
+      let b : Below (suc n) (along goes edge_of e n) = All-weaker (λ x. x < n) (λ x. x < suc n) (λ x h. omega arith) (along goes edge_of e n) (along_below n) in
       cond_both (eqb (edge_of n) e) (insert goes n (along goes edge_of e n)) (along goes edge_of e n) (Below (suc n)) (λ _. insert_below goes n (suc n) _ (omega arith) b) (λ _. b)
 
   pub along-length : (n : ℕ) → length (along goes edge_of e n) ≤ n

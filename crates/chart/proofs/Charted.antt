@@ -1,6 +1,8 @@
 -- The chart of two rings is sound, and its crossings are in order along each edge. Assumes nothing.
-use Rattle.std.proofs.Common.{◌≡◌, ℕ, zero, suc, ◌+◌, ◌<◌, ◌≤◌, true, false, ◌⊎◌, List, [], ◌∷◌, ◌++◌, length, Some, None, Option, sym, refl, ◌∙◌, subst, ap₂, inl, inr, ⊎_elim, arith}
+use Rattle.std.proofs.Common.{◌≡◌, ℕ, ◌+◌, ◌<◌, ◌≤◌, true, false, ◌⊎◌, List, [], ◌∷◌, length, Some, None, Option, sym, refl, ◌∙◌, subst, ap₂, inl, inr, ⊎_elim, arith}
 use Rattle.std.specs.List.{AllByRecursion, slice_get, cons_option, filter_map, flat_map, enumerate_from}
+use Rattle.std.proofs.ByRecursion.{All-append, All-get_or}
+use Rattle.std.proofs.lemmas.Option.{slice_get_cases}
 use Rattle.plane.specs.declared.answer.Meet.{Meet}
 use Rattle.plane.specs.declared.answer.Meet.TheVariants.{Apart, Crossing, Overlap}
 use Rattle.plane.specs.declared.ring.Ring.{Ring}
@@ -19,19 +21,13 @@ use Rattle.chart.specs.Records.{on, leaving_side, record_by, record_at, records_
 use Rattle.chart.specs.Words.{count}
 use Rattle.chart.proofs.Along.{along_has, along_all, along_once, along_ordered}
 
-all_both : {X : Type 0} (P : X → Type 0) (xs ys : List X) → AllByRecursion P xs → AllByRecursion P ys → AllByRecursion P (xs ++ ys)
-all_both P [] ys a b = b
-all_both P (x ∷ xs) ys a b = (a.0, all_both P xs ys a.1 b)
-
 all_more : {X : Type 0} (P : X → Type 0) (o : Option X) (xs : List X) → ((x : X) → o ≡ Some x → P x) → AllByRecursion P xs → AllByRecursion P (cons_option o xs)
 all_more P None xs p a = a
 all_more P (Some x) xs p a = (p x refl, a)
 
 -- what holds of each record holds of the one at an index
 at_all : {X : Type 0} (P : X → Type 0) (xs : List X) (k : ℕ) → AllByRecursion P xs → k < length xs → (x : X) × (slice_get xs k ≡ Some x) × P x
-at_all P [] k a h = absurd (omega arith)
-at_all P (x ∷ xs) zero a h = (x, refl, a.0)
-at_all P (x ∷ xs) (suc k) a h = at_all P xs k a.1 (omega arith)
+at_all P xs k a h = ⊎_elim (λ p. (p.0, p.2, subst P p.3 (All-get_or P xs k p.0 h a))) (λ p. absurd (omega arith)) (slice_get_cases xs k).1
 
 module _ {S R C M P : Type 0} (meaning : Meaning S R C M P) (a : S) where
   -- a record of edges that the rings have, and of marks that are given
@@ -53,7 +49,7 @@ module _ {S R C M P : Type 0} (meaning : Meaning S R C M P) (a : S) where
 
   fine_from : (n m i : ℕ) (es : List (Edge C)) (two : List C) → i + length es ≤ n → length two ≤ m → AllByRecursion (Fine n m) (flat_map (records_on meaning a two) (enumerate_from i es))
   fine_from n m i [] two hi hj = tt
-  fine_from n m i (e ∷ es) two hi hj = all_both (Fine n m) (records_on meaning a two (i, e)) (flat_map (records_on meaning a two) (enumerate_from (i + 1) es)) (fine_on n m i 0 e (edges two) (omega arith) (omega (arith, length-edges two, hj))) (fine_from n m (i + 1) es two (omega arith) hj)
+  fine_from n m i (e ∷ es) two hi hj = All-append (Fine n m) (records_on meaning a two (i, e)) (flat_map (records_on meaning a two) (enumerate_from (i + 1) es)) (fine_on n m i 0 e (edges two) (omega arith) (omega (arith, length-edges two, hj))) (fine_from n m (i + 1) es two (omega arith) hj)
 
   fine : (one two : List C) → AllByRecursion (Fine (length one) (length two)) (records_of meaning a one two)
   fine one two = fine_from (length one) (length two) 0 (edges one) two (omega (arith, length-edges one)) (omega arith)

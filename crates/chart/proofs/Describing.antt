@@ -1,5 +1,5 @@
 -- The last four words of each crossing, and what they leave alone. Assumes nothing.
-use Rattle.std.proofs.Common.{◌≡◌, ℕ, ◌+◌, ◌*◌, ◌<◌, ◌≤◌, Bool, List, length, get_or, drop, set, sym, ap, ◌∙◌, subst, ⊎_elim, arith, length-set, get_or-set_other, get_or-set_same}
+use Rattle.std.proofs.Common.{◌≡◌, ℕ, ◌+◌, ◌*◌, ◌<◌, ◌≤◌, Bool, List, length, get_or, drop, sym, ap, ◌∙◌, subst, ⊎_elim, arith, length-set, get_or-set_other, get_or-set_same}
 use Rattle.std.proofs.lemmas.List.{drop-set-lt}
 use Rattle.std.proofs.lemmas.Bool.{cases_eq}
 use Rattle.plane.specs.declared.ring.Ring.{Ring}
@@ -14,15 +14,6 @@ use Rattle.chart.proofs.Ringed.{chain_off, each_ring}
 use Rattle.chart.proofs.Writes.{On, links_kept}
 
 module _ {M : Type 0} (ws : List ℕ) (k : ℕ) (c : Record M) where
-  abbrev w2 : List ℕ
-  w2 = set ws (k + 2) c.one.edge
-
-  abbrev w3 : List ℕ
-  w3 = set w2 (k + 3) c.two.edge
-
-  abbrev w4 : List ℕ
-  w4 = set w3 (k + 4) (side_word c.leaving)
-
   -- nothing else is written
   pub described_other : (i : ℕ) → (i ≡ k + 2 → ⊥) → (i ≡ k + 3 → ⊥) → (i ≡ k + 4 → ⊥) → (i ≡ k + 5 → ⊥) → get_or (described ws k c) i 0 ≡ get_or ws i 0
   described_other i n2 n3 n4 n5 = grind (arith, get_or-set_other, get_or-set_same, length-set)

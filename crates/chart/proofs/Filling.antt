@@ -1,6 +1,7 @@
 -- Records that are written to the front of a table one behind another. Assumes nothing.
 use Rattle.std.proofs.Common.{◌≡◌, ℕ, ◌+◌, ◌-◌, ◌<◌, ◌≤◌, List, [], ◌∷◌, ◌++◌, length, take, drop, set, sym, ap, ◌∙◌, arith}
 use Rattle.std.proofs.lemmas.List.{append_assoc, length-append, length-set, length-take-le, take_more_set, drop-set-lt, drop-drop}
+use Rattle.std.proofs.lemmas.Grind.{drop_more_same}
 
 -- what is the same from an index on is the same from a later one on
 pub drop_further : {X : Type 0} (xs ys : List X) (m n : ℕ) → m ≤ n → drop m xs ≡ drop m ys → drop n xs ≡ drop n ys
@@ -23,5 +24,5 @@ filled_more old now all found x whole rest fits e f =
       same_length = length-set now found x ∙ f.same_length;
       within = omega (arith, length-set now found x);
       front = ap (λ l. l ++ rest) (take_more_set now found x room) ∙ append_assoc (take found now) (x ∷ []) rest ∙ ap (λ l. take found now ++ l) (sym e) ∙ f.front;
-      back = drop-set-lt (found + 1) now found x (omega arith) ∙ drop_further now old found (found + 1) (omega arith) f.back;
+      back = drop-set-lt (found + 1) now found x (omega arith) ∙ drop_more_same now old found f.back;
     }

@@ -1,11 +1,11 @@
 -- The crossings along an edge: how each is put into its place, and the chain of pointers that tells them in one list of words.
 -- A crossing x has its pointer at `base + 6 * x`, where `base` tells the ring. Assumes nothing.
 use Rattle.std.specs.Prelude.{◌≡◌, ℕ, zero, suc, ◌+◌, ◌*◌, ◌<◌, Bool, cond, List, [], ◌∷◌, ◌==◌, slice_index}
+use Rattle.std.specs.List.{AllByRecursion}
 
 -- each is below n
 abbrev pub Below : ℕ → List ℕ → Type 0
-Below n [] = Unit {0}
-Below n (x ∷ xs) = (x < n) × Below n xs
+Below n = AllByRecursion (λ x. x < n)
 
 -- the list is what the words give, read from the slot on
 abbrev pub Links : List ℕ → ℕ → ℕ → List ℕ → Type 0

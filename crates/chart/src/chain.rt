@@ -92,7 +92,7 @@ impl<K: Arithmetic> Chains<'_, K> {
 
     /// Tells all crossings in words, one after another.
     pub(crate) fn chain_all(&mut self)
-        ensures same { (self.new.crossings ≡ self.old.crossings) × (self.new.words.ghost_name ≡ self.old.words.ghost_name) }
+        ensures same { self.new.words.ghost_name ≡ self.old.words.ghost_name }
         ensures told { Chained (K.Arithmetic.meaning.not_after self.old.crossings.arith.now) self.old.crossings.corners self.old.crossings.records.now (length self.old.crossings.records.now) self.new.words.now }
         ensures rest { drop (self.old.crossings.corners.one + self.old.crossings.corners.two + 6 * length self.old.crossings.records.now) self.new.words.now ≡ drop (self.old.crossings.corners.one + self.old.crossings.corners.two + 6 * length self.old.crossings.records.now) self.old.words.now }
     {

@@ -1,4 +1,4 @@
-use Rattle.std.proofs.Common.{◌≡◌, ◌+◌, ◌*◌, get_or, sym, refl, ap, ◌∙◌, subst, arith}
+use Rattle.std.proofs.Common.{◌≡◌, ◌+◌, get_or, sym, refl, ap, ◌∙◌, subst, arith}
 use Rattle.chart.specs.declared.record.Spot.{Spot}
 use Rattle.chart.specs.Records.{on, edge_at, not_after_at}
 use Rattle.chart.specs.Words.{base, start}

@@ -40,9 +40,9 @@ pub(crate) fn fill<K: Arithmetic>(
 {
     // Counted: of a slice lent to an adapter of iter_mut no element is known, and a loop over one flat_map of all pairs is not proved.
     let mut found = 0;
-    for (i, e) in one.edges().enumerate() {
-        for (j, f) in two.edges().enumerate() {
-            if let Some(record) = crossing(arith, (i as u32, e), (j as u32, f)) {
+    for e in (0..).zip(one.edges()) {
+        for f in (0..).zip(two.edges()) {
+            if let Some(record) = crossing(arith, e, f) {
                 records[found] = record;
                 found += 1;
             }

@@ -28,6 +28,7 @@ module _ {S R C M P : Type 0} (meaning : Meaning S R C M P) (a : S) where
       length_by (leaving_side meaning a e f) i j (meeting meaning a e f) (filter_map (record_at meaning a (i, e)) (enumerate_from (j + 1) fs)) ∙ ap (λ n. cond (crosses meaning a e f) 1 0 + n) (length_on i e (j + 1) fs)
       ∙ sym (sum_by-cons (λ f. cond (crosses meaning a e f) 1 0) f fs)
 
+  -- by the edges: the library's length-flat_map sums over the edges behind their numbers, and has nothing that leaves the numbers out
   length_from : (two : List C) (i : ℕ) (es : List (Edge C)) → length (flat_map (records_on meaning a two) (enumerate_from i es)) ≡ sum_by (λ e. count_by (crosses meaning a e) (edges two)) es
   length_from two i [] = refl
   length_from two i (e ∷ es) =

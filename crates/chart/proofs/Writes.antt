@@ -20,6 +20,7 @@ Keeps ws ws' base slot x =
     (list : List ℕ) → Links ws base slot list → Below x list → length list ≤ x
     → (k : ℕ) → (On base slot list k → ⊥) → (k ≡ base + 6 * x → ⊥) → get_or ws' k 0 ≡ get_or ws k 0
 
+-- by In, a word of the rules: the library's all-has asks for the index
 pub below_in : (n : ℕ) (list : List ℕ) (y : ℕ) → Below n list → In y list → y < n
 below_in n [] y b i = absurd i
 below_in n (x ∷ xs) y b (inl e) = subst (λ (v : ℕ). v < n) (sym e) b.0

@@ -6,7 +6,6 @@ use Rattle.plane.specs.Outlines.{most_corners, checked}
 use Rattle.decimetre.specs.Exact.{Pair, admitted, exact}
 use Rattle.plane.specs.declared.ring.Ring.{Ring}
 use Rattle.job.specs.Format.{Record, Lists, pairs_in}
-use Rattle.job.specs.Outlined.{corners_in, placed}
 use Rattle.job.specs.Laws.{Fine, Split, of_ring}
 use Rattle.job.proofs.Splits.{ring_of, written_of}
 

@@ -12,7 +12,7 @@ use Rattle.plane.specs.declared.ring.Ring.{Ring}
 use Rattle.plane.specs.declared.ring.Ring.TheVariants.{One, Two}
 use Rattle.job.specs.declared.reader.Kind.{Kind}
 use Rattle.job.specs.declared.reader.Kind.TheVariants.{Corner, End}
-use Rattle.job.specs.Format.{kind_byte, InTwoBytes, number_of, Record, bytes_of, written, kind_of, known, pair_at, Lists, none, pairs_in, puts, read_from, read_job}
+use Rattle.job.specs.Format.{kind_byte, InTwoBytes, number_of, Record, bytes_of, written, kind_of, pair_at, Lists, none, pairs_in, puts, read_from, read_job}
 use Rattle.job.specs.Laws.{same_ring, of_ring, rings_of, corners, Fine, Front, Split, Written, ReadsBack, ListsReadBack, OnlySo}
 use Rattle.job.specs.Laws.Front.{ended, missing, strange, full, cut, wild}
 use Rattle.job.proofs.Numbers.{number_back, fine_in_two, in_two, bytes_back}

@@ -1,5 +1,5 @@
 -- What is found in the outlines of a job is what its pairs tell. Assumes nothing.
-use Rattle.std.proofs.Common.{◌≡◌, ℕ, ◌+◌, ◌≤◌, Bool, true, false, cond, List, [], ◌∷◌, map, get_or, Some, None, Ok, Err, Result, sym, refl, ap, ◌∙◌, ap₂, arith, w8, Fits}
+use Rattle.std.proofs.Common.{◌≡◌, ℕ, ◌+◌, List, [], ◌∷◌, map, get_or, Some, None, Ok, Err, Result, sym, refl, ap, ◌∙◌, ap₂, arith, w8, Fits}
 use Rattle.std.proofs.lemmas.Option.{cond_some}
 use Rattle.std.proofs.lemmas.Grind.{common_steps}
 use Rattle.plane.specs.declared.refusal.Refusal.{Refusal}
@@ -7,10 +7,10 @@ use Rattle.plane.specs.Refusals.{Told, told, refused}
 use Rattle.plane.specs.Outlines.{Corners, most_corners}
 use Rattle.decimetre.specs.Exact.{Pair}
 use Rattle.decimetre.specs.declared.corner.Corner.{Corner}
-use Rattle.decimetre.specs.Exact.{exact, admitted, near, corner_of}
+use Rattle.decimetre.specs.Exact.{exact, near, corner_of}
 use Rattle.plane.specs.declared.ring.Ring.TheVariants.{One, Two}
 use Rattle.job.specs.Format.{Lists, read_job, and_then}
-use Rattle.job.specs.Outlined.{Outlines, placed, corners_in}
+use Rattle.job.specs.Outlined.{Outlines, placed}
 use Rattle.job.proofs.Checked.{rings_pass}
 use Rattle.job.proofs.Splits.{split_of}
 use Rattle.overlap.specs.Look.{found_between, found_in, look_at}

@@ -21,7 +21,7 @@ use Rattle.job.proofs.Readings.{reads_one}
 no_kind : (b : ℕ) → (b ≡ 17 → ⊥) → (b ≡ 18 → ⊥) → (b ≡ 20 → ⊥) → kind_of b ≡ None
 no_kind b p q r = grind (arith, common_steps)
 
--- the kind that a byte begins, or none does
+-- a kind that a byte begins, or that it begins none
 byte_back : (b : ℕ) → ((k : Kind) → b ≡ kind_byte k → ⊥) ⊎ ((k : Kind) × (b ≡ kind_byte k))
 byte_back b = go (cases_eq b 17) (cases_eq b 18) (cases_eq b 20)
   where

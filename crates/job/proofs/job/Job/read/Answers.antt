@@ -1,5 +1,5 @@
 -- What is left gives the answer, from record to record.
-use Rattle.std.proofs.Common.{◌≡◌, ◌+◌, length, drop, Ok, Err, sym, ap, ◌∙◌, arith}
+use Rattle.std.proofs.Common.{◌≡◌, ◌+◌, length, drop, Ok, Err, ◌∙◌, arith}
 use Rattle.plane.specs.Refusals.{tells}
 use Rattle.job.specs.Format.{read_job, seen}
 use Rattle.job.specs.Held.{lists_of}
@@ -25,18 +25,14 @@ returns-in-End c =
 
 pub loop-at-preserved : goal.loop-at-preserved
 loop-at-preserved c =
-    let rest = c.from_offset-rest.ensures in
-    let kind = sym (ap Ok c.in-Corner.is) ∙ rw (rest.at, rest.bytes) at c.in_ok-ring.ensures in
-    let on = reads_on c.args.bytes.now c.loop-at.at (lists_of c.loop-at.job) (lists_of c.add.new.self) c.in-Corner.ring kind (rw (rest.at, rest.bytes) at c.in_ok-add-in-Corner.ensures.value) in
+    let on = reads_on c.args.bytes.now c.loop-at.at (lists_of c.loop-at.job) (lists_of c.add.new.self) c.in-Corner.ring (grind arith) (grind arith) in
     record { within = on.0; same = on.1 ∙ c.loop-at.invariant.same }
 
 ends : (c : goal.Left-loop-at) → Err (tells 13 (length c.args.bytes.now)) ≡ read_job c.args.bytes.now
 ends c = elim c.loop-at-test.branch [
   | else-loop-at-test w ↦ reads_none c.args.bytes.now c.loop-at.at (lists_of c.loop-at.job) (omega arith) ∙ c.loop-at.invariant.same
   | then-loop-at-test+in_ok-ring+in-Corner+in_ok-add-in-Corner+else-at-end-at-gt5 w ↦
-      let rest = w.from_offset-rest.ensures in
-      let kind = sym (ap Ok w.in-Corner.is) ∙ rw (rest.at, rest.bytes) at w.in_ok-ring.ensures in
-      let on = reads_on c.args.bytes.now c.loop-at.at (lists_of c.loop-at.job) (lists_of w.add.new.self) w.in-Corner.ring kind (rw (rest.at, rest.bytes) at w.in_ok-add-in-Corner.ensures.value) in
+      let on = reads_on c.args.bytes.now c.loop-at.at (lists_of c.loop-at.job) (lists_of w.add.new.self) w.in-Corner.ring (grind arith) (grind arith) in
       reads_none c.args.bytes.now (c.loop-at.at + 5) (lists_of w.add.new.self) (omega arith) ∙ on.1 ∙ c.loop-at.invariant.same
 ]
 

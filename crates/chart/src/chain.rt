@@ -42,6 +42,7 @@ impl<K: Arithmetic> Crossings<'_, K> {
     }
 }
 
+// A crossing goes by its number here, as in the words, so each call asks that there is one of that number.
 impl<K: Arithmetic> Chains<'_, K> {
     // The slot of the chain of its edge at which crossing id is to be put in: behind all that do not stand after it.
     fn find(&self, ring: Ring, id: u32) -> usize

@@ -1,5 +1,5 @@
 // The chart of two outlines, written into the caller's tables.
-ghost use Rattle.std.specs.Prelude.{◌≡◌, ◌+◌, ◌*◌, ◌<◌, ◌≤◌, true, false, List, ◌++◌, length, drop, is_ok, Ok};
+ghost use Rattle.std.specs.Prelude.{◌≡◌, ◌+◌, ◌*◌, ◌<◌, ◌≤◌, true, List, ◌++◌, length, drop, is_ok, Ok, OnErr};
 ghost use Rattle.plane.specs.Outlines.{most_corners};
 ghost use Rattle.plane.specs.Refusals.{refused};
 ghost use Rattle.rules.specs.Chart.{Sound};
@@ -45,7 +45,7 @@ pub fn compute_sorted_edge_intersections<K: Arithmetic>(
     words: &mut [u32],
 ) -> Result<usize, Refusal>
     ensures answer { refused result ≡ refused_for (length one.now) (length two.now) (crossings K.Arithmetic.meaning arith.now one.now two.now) (length records.old) (length words.old) }
-    ensures kept { is_ok result ≡ false → (records.new ≡ records.old) × (words.new ≡ words.old) }
+    ensures kept { OnErr result ((records.new ≡ records.old) × (words.new ≡ words.old)) }
     ensures found { is_ok result ≡ true → result ≡ Ok (crossings K.Arithmetic.meaning arith.now one.now two.now) }
     ensures written { is_ok result ≡ true → records.new ≡ records_of K.Arithmetic.meaning arith.now one.now two.now ++ drop (crossings K.Arithmetic.meaning arith.now one.now two.now) records.old }
     ensures told { is_ok result ≡ true → ToldBy words.new (chart_of K.Arithmetic.meaning arith.now one.now two.now) }

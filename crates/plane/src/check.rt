@@ -1,5 +1,5 @@
 // How raw pairs become a checked outline.
-ghost use Rattle.std.specs.Prelude.{◌≡◌, ◌≤◌, true, false, length, drop, is_ok, None, IfOk};
+ghost use Rattle.std.specs.Prelude.{◌≡◌, ◌≤◌, true, length, drop, is_ok, None, IfOk, OnErr};
 ghost use Rattle.plane.specs.Outlines.{Corners, first_wild, checked};
 ghost use Rattle.plane.specs.Refusals.{refused};
 
@@ -64,7 +64,7 @@ pub fn check<'a, K: Arithmetic>(
     store: &mut &'a mut [K::Corner],
 ) -> Result<Outline<'a, K>, Refusal>
     ensures answer { refused result ≡ checked K.Arithmetic.meaning raw.now (length store.old.now) }
-    ensures kept { is_ok result ≡ false → store.new ≡ store.old }
+    ensures kept { OnErr result (store.new ≡ store.old) }
     ensures held { IfOk result (λ outline. Corners K.Arithmetic.meaning raw.now outline) }
     ensures rest { is_ok result ≡ true → store.new.now ≡ drop (length raw.now) store.old.now }
 {

@@ -2,6 +2,7 @@
 ghost use Rattle.std.specs.Prelude.{◌≡◌};
 ghost use Rattle.plane.specs.Refusals.{number_of, place_of};
 
+use std::error::Error;
 use std::fmt;
 
 /// One refusal for each reason that a call of this library can have.
@@ -79,3 +80,5 @@ impl fmt::Display for Refusal {
         write!(f, "refused {} {}", self.number(), self.place())
     }
 }
+
+impl Error for Refusal {}

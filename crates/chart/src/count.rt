@@ -24,6 +24,8 @@ fn cross_edge<K: Arithmetic>(arith: &K, e: Edge<K::Corner>, two: &Outline<K>) ->
     two.edges().filter(|f| crosses(arith, e, *f)).count()
 }
 
+// Here and in the other calls the arithmetic and the two outlines are three arguments, as in the source: a struct of them would be made for one call.
+
 /// How many pairs of an edge of each outline cross.
 pub fn count<K: Arithmetic>(arith: &K, one: &Outline<K>, two: &Outline<K>) -> usize
     ensures { result ≡ crossings K.Arithmetic.meaning arith.now one.now two.now }

@@ -18,6 +18,7 @@ pub fn is_near(c: Corner) -> bool
 }
 
 /// The corner that a pair is admitted as, if it is.
+// Two lines, as in single precision: shared, they would be handed the test.
 pub fn admitted(pair: Pair) -> Option<Corner>
     ensures { result ≡ the_admitted pair }
 {

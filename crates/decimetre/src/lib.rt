@@ -1,6 +1,6 @@
 // The exact arithmetic: corners in whole decimetres, and nothing rounded.
-// What shares a name with single precision (orientation2d, segments_intersection2d, between, passed, turn, against, to_point, admitted, FARTHEST, Point)
-// differs in more than a type: here it tests whether corners are near and bounds its numbers, there it has a tolerance and rounds.
+// What has the name of something in single precision has it from the source, and differs in more than a type: here each question first tells whether its corners
+// are near, and a place on an edge is a fraction; there every step rounds, sides, turns and meetings have a tolerance, and a place is a quotient.
 #![tactic(auto)]
 
 pub mod admit;

@@ -24,6 +24,7 @@ fn is_admitted(c: Corner) -> bool
 }
 
 /// The corner that a pair is admitted as, if it is. Its numbers are then finite.
+// Two lines, as in the exact arithmetic: shared, they would be handed the test.
 #[tactic(auto, using(crate::proofs::Finite::admitted_finite))]
 pub fn admitted(pair: Pair) -> Option<Corner>
     ensures value { result ≡ the_admitted pair }

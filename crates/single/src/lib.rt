@@ -1,5 +1,6 @@
-// Single-precision arithmetic: every operation rounds once. Functions that have a name in common with the exact arithmetic have it from the source;
-// they differ in more than the numbers: a tolerance and rounding here, there corners that are not near, and bounds.
+// Single-precision arithmetic: every operation rounds once.
+// What has the name of something in the exact arithmetic has it from the source, and differs in more than a type: here every step rounds, sides, turns and meetings
+// have a tolerance, and a place on an edge is a quotient; there each question first tells whether its corners are near, and a place is a fraction.
 #![tactic(auto)]
 
 pub mod admit;

@@ -21,6 +21,7 @@ impl Single {
         ensures answer { refused result ≡ tolerated tolerance }
         ensures value { IfOk result (λ s. s.tolerance ≡ tolerance) }
     {
+        // By two comparisons: of what a range of floats contains the check finds no proof.
         if 0.0 <= tolerance && tolerance <= 1.0 {
             Ok(Single { tolerance })
         } else {

@@ -26,9 +26,9 @@ fn a_count_stops_at_its_most(rt: HostRuntime) {
         crossings: 0,
         corners: u32::MAX - 1,
     });
-    assert!(rt; matches!(tally.take(Event::Closing), Err(Refusal::NoPlace)));
+    assert_eq!(rt; tally.take(Event::Closing), Err(Refusal::NoPlace));
     assert!(rt; tally.take(CORNER).is_ok());
-    assert!(rt; matches!(tally.ask(CORNER), Err(Refusal::NoPlace)));
+    assert_eq!(rt; tally.ask(CORNER), Err(Refusal::NoPlace));
     assert!(rt; tally.take(CROSSING).is_ok());
     let counted = Totals {
         loops: u32::MAX,
@@ -44,12 +44,12 @@ fn a_full_list_and_a_spent_cap_refuse(rt: HostRuntime) {
     let mut list = EventList::new(&mut places);
     assert!(rt; list.take(CROSSING).is_ok());
     assert!(rt; list.take(CORNER).is_ok());
-    assert!(rt; matches!(list.take(CORNER), Err(Refusal::NoPlace)));
+    assert_eq!(rt; list.take(CORNER), Err(Refusal::NoPlace));
     assert_eq!(rt; list.events().len(), 2);
     let mut none = Cap::new(0, Tally::new());
-    assert!(rt; matches!(none.take(CORNER), Err(Refusal::LimitReached)));
+    assert_eq!(rt; none.take(CORNER), Err(Refusal::LimitReached));
     let mut one = Cap::new(1, Tally::new());
     assert!(rt; one.take(CORNER).is_ok());
-    assert!(rt; matches!(one.ask(CORNER), Err(Refusal::LimitReached)));
+    assert_eq!(rt; one.ask(CORNER), Err(Refusal::LimitReached));
     assert_eq!(rt; one.into_inner().totals().corners, 1);
 }

@@ -42,7 +42,8 @@ impl<K: Arithmetic> Crossings<'_, K> {
     }
 }
 
-// A crossing goes by its number here, as in the words, so each call asks that there is one of that number.
+// A crossing goes by its number here, as in the words, so each call asks that there is one of that number. What the calls promise is said over any records
+// and corners, as in the theorem on charts, and so each of these is named.
 impl<K: Arithmetic> Chains<'_, K> {
     // The slot of the chain of its edge at which crossing id is to be put in: behind all that do not stand after it.
     fn find(&self, ring: Ring, id: u32) -> usize

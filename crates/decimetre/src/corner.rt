@@ -10,7 +10,7 @@ pub struct Decimetre;
 pub type Pair = plane::pair::Pair<i32>;
 
 /// A corner. Those within 16,384 of the origin on each axis are admitted.
-// Not one type over any number, as `Pair` is: `near` here and, in single precision, `-` on corners must stand where the type is declared.
+// Not one type over any number, as `Pair` is: in single precision `-` and the products stand on the corner, and have to stand where the type is declared.
 #[derive(Clone, Copy, PartialEq, Eq, Debug)]
 pub struct Corner {
     pub x: i32,

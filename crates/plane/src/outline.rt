@@ -27,6 +27,7 @@ impl<'a, K: Arithmetic> Model for Outline<'a, K> {
     ghost invariant = { λ o. (length o.corners.now ≤ most_corners) × AllByRecursion (Admitted K.meaning) o.corners.now };
 }
 
+// What the invariant says is told of the corners and of the edges again, since who has those does not see the outline.
 impl<'a, K: Arithmetic> Outline<'a, K> {
     /// The outline over corners that are few and admitted.
     pub fn over(corners: &'a [K::Corner]) -> Self

@@ -9,7 +9,7 @@ use plane::{mark, pair};
 pub type Pair = pair::Pair<f32>;
 
 /// A corner. Those within 2^59 of the origin on each axis are admitted.
-// Not one type over any number, as `Pair` is, since `-` on corners has to stand where the type is declared.
+// Not one type over any number, as `Pair` is, since `-` and the products of corners have to stand where the type is declared.
 #[derive(Clone, Copy, PartialEq, Debug)]
 pub struct Corner {
     pub x: f32,

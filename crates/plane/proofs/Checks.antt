@@ -34,12 +34,6 @@ module _ {S R C M P : Type 0} (m : Meaning S R C M P) where
   corners-length (r ∷ rs) [] h = absurd h
   corners-length (r ∷ rs) (c ∷ cs) h = ap suc (corners-length rs cs h.1)
 
-  module _ (raw : List R) (places : ℕ) (none : checked m raw places ≡ None) where
-    pub tame_from_checked : first_wild m raw ≡ None
-    tame_from_checked = grind arith
-
-    pub short_from_checked : length raw ≤ most_corners
-    short_from_checked = grind arith
-
-    pub room_from_checked : length raw ≤ places
-    room_from_checked = grind arith
+  -- a check that does not refuse has shown that there are few
+  pub short_from_checked : (raw : List R) (places : ℕ) → checked m raw places ≡ None → length raw ≤ most_corners
+  short_from_checked raw places none = grind arith

@@ -3,6 +3,8 @@
 
 mod failure;
 mod look;
+#[cfg(test)]
+mod tests;
 
 use crate::failure::Failure;
 use crate::look::look;

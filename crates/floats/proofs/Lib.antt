@@ -1,5 +1,6 @@
 pub mod Fractions
 pub mod Order
+pub mod Places
 pub mod Sums
 pub mod Products
 pub mod Whole

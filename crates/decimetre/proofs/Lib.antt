@@ -1,6 +1,8 @@
 pub mod Products
 pub mod Passes
 pub mod Betweens
+pub mod Meets
+pub mod Admits
 pub mod Integers
 pub mod Ring
 pub mod Ratios

@@ -1,2 +1,3 @@
 pub mod Finite
+pub mod Outlines
 pub mod Sane

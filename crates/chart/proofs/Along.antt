@@ -1,5 +1,5 @@
 -- The list along an edge: who is in it, and its order. Assumes nothing.
-use Rattle.std.proofs.Common.{◌≡◌, ℕ, zero, suc, ◌<◌, ◌≤◌, Bool, true, false, eqb, ◌⊎◌, List, [], ◌∷◌, length, sym, refl, ap, ◌∙◌, subst, inl, inr, ⊎_elim, arith}
+use Rattle.std.proofs.Common.{◌≡◌, ℕ, zero, suc, ◌<◌, ◌≤◌, Bool, true, false, cond, eqb, ◌⊎◌, List, [], ◌∷◌, length, sym, refl, ap, ◌∙◌, subst, inl, inr, ⊎_elim, arith}
 use Rattle.std.proofs.lemmas.Bool.{cond_both, eqb-true, eqb-false, both_ways, cases_eq}
 use Rattle.std.proofs.ByRecursion.{All-weaker}
 use Rattle.rules.specs.Lists.{In, Once}
@@ -105,3 +105,17 @@ module _ (goes : ℕ → ℕ → Bool) (edge_of : ℕ → ℕ) (e : ℕ) where
   along_ordered (suc n) m law h =
       let o : Ordered goes (along goes edge_of e n) = along_ordered n m law (omega arith) in
       cond_both (eqb (edge_of n) e) (insert goes n (along goes edge_of e n)) (along goes edge_of e n) (Ordered goes) (λ _. insert_ordered goes m n _ law h (along_below n) o) (λ _. o)
+
+insert_same : (goes goes' : ℕ → ℕ → Bool) (x : ℕ) (list : List ℕ) → ((y : ℕ) → In y list → goes y x ≡ goes' y x) → insert goes x list ≡ insert goes' x list
+insert_same goes goes' x [] h = refl
+insert_same goes goes' x (y ∷ ys) h = rw (h y (inl refl), insert_same goes goes' x ys (λ z i. h z (inr i))) refl
+
+-- the list along an edge rests on the crossings in question alone
+pub along_same : (goes goes' : ℕ → ℕ → Bool) (edges edges' : ℕ → ℕ) (e n : ℕ) → ((y x : ℕ) → y < n → x < n → goes y x ≡ goes' y x) → ((x : ℕ) → x < n → edges x ≡ edges' x)
+    → along goes edges e n ≡ along goes' edges' e n
+along_same goes goes' edges edges' e zero hg he = refl
+along_same goes goes' edges edges' e (suc n) hg he =
+    let list = along goes edges e n in
+    ap (λ (v : ℕ). cond (eqb v e) (insert goes n list) list) (he n (omega arith))
+    ∙ (ap (λ (l : List ℕ). cond (eqb (edges' n) e) l list) (insert_same goes goes' n list (λ y i. hg y n (omega (arith, below_in n list y (along_below goes edges e n) i)) (omega arith)))
+    ∙ ap (λ (l : List ℕ). cond (eqb (edges' n) e) (insert goes' n l) l) (along_same goes goes' edges edges' e n (λ y x hy hx. hg y x (omega arith) (omega arith)) (λ x h. he x (omega arith))))

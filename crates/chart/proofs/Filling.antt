@@ -16,13 +16,28 @@ pub record Filled {X : Type 0} (old now : List X) (found : ℕ) (all rest : List
   pub front : take found now ++ rest ≡ all
   pub back : drop found now ≡ drop found old
 
+-- there is room for several that are written next
+pub filled_room : {X : Type 0} (old now all : List X) (found : ℕ) (whole some rest : List X) → length all ≤ length old → whole ≡ some ++ rest → Filled old now found all whole → found + length some ≤ length now
+filled_room old now all found whole some rest fits e f = omega (arith, f.same_length, ap length f.front, length-append (take found now) whole, length-take-le found now f.within, ap length e, length-append some rest)
+
 -- one is written
-pub filled_more : {X : Type 0} (old now all : List X) (found : ℕ) (x : X) (whole rest : List X) → length all ≤ length old → whole ≡ x ∷ rest → Filled old now found all whole → Filled old (set now found x) (found + 1) all rest
-filled_more old now all found x whole rest fits e f =
-    let room : found < length now = omega (arith, fits, f.same_length, f.within, ap length f.front, length-append (take found now) whole, length-take-le found now f.within, ap length e) in
+pub filled_more : {X : Type 0} (old now all : List X) (found : ℕ) (x : X) (whole rest : List X) → found < length now → whole ≡ x ∷ rest → Filled old now found all whole → Filled old (set now found x) (found + 1) all rest
+filled_more old now all found x whole rest room e f =
     record {
       same_length = length-set now found x ∙ f.same_length;
       within = omega (arith, length-set now found x);
       front = ap (λ l. l ++ rest) (take_more_set now found x room) ∙ append_assoc (take found now) (x ∷ []) rest ∙ ap (λ l. take found now ++ l) (sym e) ∙ f.front;
       back = drop-set-lt (found + 1) now found x (omega arith) ∙ drop_more_same now old found f.back;
+    }
+
+-- they are written
+pub filled_part : {X : Type 0} (old now next all : List X) (found found' : ℕ) (whole some rest : List X) → whole ≡ some ++ rest → Filled old now found all whole
+    → length next ≡ length now → found' ≤ length next → take found' next ≡ take found now ++ some → drop found' next ≡ drop found' now → Filled old next found' all rest
+filled_part old now next all found found' whole some rest e f same fits front back =
+    let many : found' ≡ found + length some = omega (arith, length-take-le found' next fits, ap length front, length-append (take found now) some, length-take-le found now f.within) in
+    record {
+      same_length = same ∙ f.same_length;
+      within = fits;
+      front = ap (λ l. l ++ rest) front ∙ append_assoc (take found now) some rest ∙ ap (λ l. take found now ++ l) (sym e) ∙ f.front;
+      back = back ∙ drop_further now old found found' (omega arith) f.back;
     }

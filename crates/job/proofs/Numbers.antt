@@ -1,5 +1,5 @@
 -- Numbers of two bytes. Assumes nothing.
-use Rattle.std.proofs.Common.{◌≡◌, ℕ, ◌/◌, ◌%◌, ◌<◌, ◌≤◌, [], ◌∷◌, ℤ, pos, negsuc, nat_abs, arith}
+use Rattle.std.proofs.Common.{◌≡◌, ℕ, ◌+◌, ◌*◌, ◌/◌, ◌%◌, ◌<◌, ◌≤◌, [], ◌∷◌, ℤ, pos, negsuc, nat_abs, arith}
 use Rattle.std.proofs.lemmas.Grind.{common_steps}
 use Rattle.decimetre.specs.Exact.{Pair}
 use Rattle.job.specs.Format.{bits_of, InTwoBytes, number_bytes, number_of}
@@ -12,6 +12,9 @@ number_back (negsuc n) h = grind (arith, common_steps)
 
 -- and bytes from their number
 module _ (a b : ℕ) (p : a < 256) (q : b < 256) where
+  pub bits_back : bits_of (number_of a b) ≡ a * 256 + b
+  bits_back = grind (arith, common_steps)
+
   pub in_two : InTwoBytes (number_of a b)
   in_two = grind (arith, common_steps)
 

@@ -140,3 +140,13 @@ module _ (c : Chart) (sound : Sound c) (none : c.count ≡ 0) where
       go : Ended s → map reverse (reverse (closed s.past)) ≡ inner_loops c c.inner
       go (for_want is d) = grind arith
       go (all_round r i is) = grind (arith, closed_round, back_forth)
+
+  -- the round of a finished walk is one of its loops, and has the ring's corners
+  pub whole_round : (s : State) (r : Ring) → Trail c s.past → Finished c s → c.inner ≡ Some r → (l : List Event) × In l (closed s.past) × (length l ≡ c.corners r)
+  whole_round s r t h i = go (has_ended s t h)
+    where
+      go : Ended s → (l : List Event) × In l (closed s.past) × (length l ≡ c.corners r)
+      go (for_want is d) = absurd cc
+      go (all_round q j is) =
+          let p : q ≡ r = cc in
+          (back q (c.corners q), rw is (inl (sym (back_under_way q (c.corners q)))), back_length q (c.corners q) ∙ ap c.corners p)

@@ -101,6 +101,9 @@ prev c (crossing y s) = left_along (other s) (c.edge (other s) y) (before y (c.a
 pub next_corner_below : (c : Chart) (r : Ring) (i : ℕ) → i < c.corners r → next_corner c r i < c.corners r
 next_corner_below c r i h = grind arith
 
+pub before_next_corner : (c : Chart) (r : Ring) (i : ℕ) → i < c.corners r → before_corner c r (next_corner c r i) ≡ i
+before_next_corner c r i h = grind arith
+
 module _ (c : Chart) (sound : Sound c) where
   valid_reach : (r : Ring) (i : ℕ) (o : Option ℕ) → i < c.corners r → ((y : ℕ) → o ≡ Some y → In y (c.along r i)) → Valid c (reach c r i o)
   valid_reach r i (Some y) h f = (sound.on_its_edge r i y (f y refl)).0

@@ -5,6 +5,7 @@ use crate::written::{Told, Written, ring};
 use decimetre::corner::Decimetre;
 use plane::answer::{Meet, Side};
 use plane::check::check;
+use plane::outline::MOST_CORNERS;
 use plane::point_in_poly2d::point_in_poly2d;
 use single::tolerance::Single;
 use std::alloc::Global;
@@ -55,7 +56,8 @@ fn answer_of<K: Written>(
         (Call::Side, [a, b], [c]) => Answer::Side(arith.side(corner(a)?, corner(b)?, corner(c)?)),
         (Call::Inside, [p], ring) => {
             let p = corner(p)?;
-            let mut places = vec![in heap; p; ring.len()]?;
+            // A longer ring is refused, and takes no places.
+            let mut places = vec![in heap; p; ring.len().min(MOST_CORNERS)]?;
             let ring = check::<K>(ring, &mut places.as_mut_slice())?;
             Answer::Inside(point_in_poly2d(arith, p, &ring))
         }

@@ -1,7 +1,8 @@
 // What is found out about a job.
-ghost use Rattle.std.specs.Prelude.{◌≡◌};
+ghost use Rattle.std.specs.Prelude.{◌≡◌, [], ◌∷◌};
 ghost use Rattle.job.specs.Format.{answered};
 ghost use Rattle.overlap.specs.Look.{found_between, look_at, cornered};
+ghost use Rattle.overlap.specs.declared.look.Line.TheVariants.{Corners, Crossings};
 
 use chart::count::count;
 use decimetre::corner::{Corner, Decimetre};
@@ -52,11 +53,30 @@ impl Found {
         }
         Ok(self)
     }
+
+    /// What is printed, line by line.
+    pub fn lines(self) -> [Line; 2]
+        ensures { result ≡ Corners self.one self.two ∷ Crossings self.crossings ∷ [] }
+    {
+        [
+            Line::Corners(self.one, self.two),
+            Line::Crossings(self.crossings),
+        ]
+    }
 }
 
-impl fmt::Display for Found {
+/// A line of what is printed of a job that was read.
+#[derive(Clone, Copy, PartialEq, Eq, Debug)]
+pub enum Line {
+    Corners(usize, usize),
+    Crossings(usize),
+}
+
+impl fmt::Display for Line {
     fn fmt<W: fmt::Write>(&self, f: &mut fmt::Formatter<W>) -> fmt::Result {
-        writeln!(f, "corners {} {}", self.one, self.two)?;
-        write!(f, "crossings {}", self.crossings)
+        match *self {
+            Line::Corners(one, two) => write!(f, "corners {one} {two}"),
+            Line::Crossings(crossings) => write!(f, "crossings {crossings}"),
+        }
     }
 }

@@ -22,7 +22,12 @@ fn run(rt: &HostRuntime) -> Result<(), Failure> {
     let mut bytes = Vec::new(rt.alloc());
     rt.stdin().take(LONGEST_JOB).read_to_end(&mut bytes)?;
     match look(bytes.as_slice())?.with_corners() {
-        Ok(found) => println!(rt; "{found}")?,
+        Ok(found) => {
+            // Each line by itself, so that the first is out where the second fails.
+            for line in found.lines() {
+                println!(rt; "{line}")?;
+            }
+        }
         Err(refusal) => println!(rt; "{refusal}")?,
     }
     Ok(())

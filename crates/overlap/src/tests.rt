@@ -19,8 +19,11 @@ fn what_is_found_prints_in_two_lines(rt: HostRuntime) -> Result<(), Fail> {
         two: 4,
         crossings: 6,
     };
-    let text = format!(in rt.alloc(); "{found}")?;
-    assert_eq!(rt; text.as_str(), "corners 3 4\ncrossings 6");
+    let [corners, crossings] = found.lines();
+    let first = format!(in rt.alloc(); "{corners}")?;
+    assert_eq!(rt; first.as_str(), "corners 3 4");
+    let second = format!(in rt.alloc(); "{crossings}")?;
+    assert_eq!(rt; second.as_str(), "crossings 6");
     assert_eq!(rt; look(&[]).err(), Some(Refusal::CutShort(0)));
     Ok(())
 }

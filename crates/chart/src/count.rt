@@ -30,5 +30,6 @@ fn cross_edge<K: Arithmetic>(arith: &K, e: Edge<K::Corner>, two: &Outline<K>) ->
 pub fn count<K: Arithmetic>(arith: &K, one: &Outline<K>, two: &Outline<K>) -> usize
     ensures { result ≡ crossings K.Arithmetic.meaning arith.now one.now two.now }
 {
-    one.edges().map(|e| cross_edge(arith, e, two)).sum()
+    let edges = one.edges();
+    edges.map(|e| cross_edge(arith, e, two)).sum()
 }

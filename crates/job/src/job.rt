@@ -1,5 +1,6 @@
 // Jobs, read from bytes.
-ghost use Rattle.std.specs.Prelude.{◌≡◌, Ok, OnErr};
+ghost use Rattle.std.specs.Prelude.{◌≡◌, ◌≤◌, length, Ok, IfOk, OnErr};
+ghost use Rattle.plane.specs.Outlines.{most_corners};
 ghost use Rattle.job.specs.Format.{added, and_then, pairs_in, puts, read_job, seen};
 ghost use Rattle.job.specs.Held.{lists_of};
 ghost use Rattle.job.specs.Laws.{Split};
@@ -32,6 +33,7 @@ impl Job {
     pub fn read(bytes: &[u8]) -> Result<Job, Refusal>
         ensures value { seen lists_of result ≡ read_job bytes.now }
         ensures split { Split bytes.now (seen lists_of result) }
+        ensures few { IfOk result (λ job. (length job.one ≤ most_corners) × (length job.two ≤ most_corners)) }
     {
         let mut job = Job {
             one: Pairs::new(),

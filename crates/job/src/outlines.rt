@@ -1,6 +1,10 @@
 // From a job's pairs to two checked outlines.
-ghost use Rattle.std.specs.Prelude.{◌≡◌, ◌+◌, length, drop, IfOk, OnErr};
+ghost use Rattle.std.specs.Prelude.{◌≡◌, ◌+◌, ◌≤◌, length, drop, IfOk, OnErr};
+ghost use Rattle.std.specs.List.{AllByRecursion};
+ghost use Rattle.plane.specs.Meaning.{Admitted};
+ghost use Rattle.plane.specs.Outlines.{most_corners};
 ghost use Rattle.plane.specs.Refusals.{refused};
+ghost use Rattle.decimetre.specs.Exact.{exact};
 ghost use Rattle.job.specs.Format.{read_job};
 ghost use Rattle.job.specs.Outlined.{placed, Outlines};
 
@@ -26,6 +30,8 @@ pub fn read_outlines<'a>(
     ensures answer { refused result ≡ placed (length store.old.now) (read_job bytes.now) }
     ensures kept { OnErr result (store.new ≡ store.old) }
     ensures held { IfOk result (λ made. Outlines (read_job bytes.now) made.one made.two) }
+    ensures few { IfOk result (λ made. (length made.one ≤ most_corners) × (length made.two ≤ most_corners)) }
+    ensures fine { IfOk result (λ made. AllByRecursion (Admitted exact) made.one × AllByRecursion (Admitted exact) made.two) }
     ensures rest { IfOk result (λ made. store.new.now ≡ drop (length made.one + length made.two) store.old.now) }
 {
     let job = Job::read(bytes)?;

@@ -48,6 +48,7 @@ impl Pairs {
     pub fn add(&mut self, rest: &Rest) -> Result<(), Refusal>
         ensures value { seen (λ _. self.new) result ≡ added rest.now.at self.old rest.now.bytes.now }
         ensures kept { OnErr result (self.new ≡ self.old) }
+        ensures few { length self.new ≤ most_corners }
     {
         if self.pairs.is_full() {
             return Err(Refusal::TooManyCorners(rest.at));

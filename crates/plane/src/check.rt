@@ -1,6 +1,8 @@
 // How raw pairs become a checked outline.
 ghost use Rattle.std.specs.Prelude.{◌≡◌, ◌≤◌, true, length, drop, is_ok, None, IfOk, OnErr};
-ghost use Rattle.plane.specs.Outlines.{Corners, first_wild, checked};
+ghost use Rattle.std.specs.List.{AllByRecursion};
+ghost use Rattle.plane.specs.Meaning.{Admitted};
+ghost use Rattle.plane.specs.Outlines.{Corners, first_wild, checked, most_corners};
 ghost use Rattle.plane.specs.Refusals.{refused};
 
 use crate::arithmetic::Arithmetic;
@@ -66,6 +68,8 @@ pub fn check<'a, K: Arithmetic>(
     ensures answer { refused result ≡ checked K.Arithmetic.meaning raw.now (length store.old.now) }
     ensures kept { OnErr result (store.new ≡ store.old) }
     ensures held { IfOk result (λ outline. Corners K.Arithmetic.meaning raw.now outline) }
+    ensures few { IfOk result (λ outline. length outline ≤ most_corners) }
+    ensures fine { IfOk result (λ outline. AllByRecursion (Admitted K.Arithmetic.meaning) outline) }
     ensures rest { is_ok result ≡ true → store.new.now ≡ drop (length raw.now) store.old.now }
 {
     refuse::<K>(raw, store.len())?;

@@ -57,12 +57,17 @@ impl Taker for Tally {
     ghost rule = { tallied };
 
     fn ask(&self, event: Event) -> Result<(), Refusal> {
-        self.totals.with(event).ok_or(Refusal::NoPlace)?;
+        let Some(_) = self.totals.with(event) else {
+            return Err(Refusal::NoPlace);
+        };
         Ok(())
     }
 
     fn take(&mut self, event: Event) -> Result<(), Refusal> {
-        self.totals = self.totals.with(event).ok_or(Refusal::NoPlace)?;
+        let Some(totals) = self.totals.with(event) else {
+            return Err(Refusal::NoPlace);
+        };
+        self.totals = totals;
         Ok(())
     }
 }

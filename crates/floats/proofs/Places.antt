@@ -1,4 +1,4 @@
--- Any three floats that are numbers, the infinities among them, stand in the order of some whole numbers; and two of them by which is below. Assumes nothing.
+-- Any three floats that are numbers, the infinities among them, stand in the order of some whole numbers; up to and equal, of two of them, are told by which is below. Assumes nothing.
 use Rattle.std.proofs.Common.{◌≡◌, ℕ, ◌+◌, ◌*◌, ◌<◌, Bool, true, false, not, ◌&&◌, T, ℤ, pos, inl, inr, sym, ap, ◌∙◌, mul-pos, arith}
 use lib.Signed.{lt_z}
 use lib.Ieee.{Float, nan, inf, fin, up, down, lt, eq, le, is_nan}

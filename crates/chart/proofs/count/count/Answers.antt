@@ -9,7 +9,7 @@ use Rattle.chart.proofs.count.count.Goals as goal
 
 pub sum-requires-clause-fits : goal.sum-requires-clause-fits
 sum-requires-clause-fits g c =
-    fits_from_length _ _ most_corners (2 ^ 64) (at_most_from_yields_List (YieldsList-at c.map.ensures.source (YieldsList-from_first (λ x. x) edges_left _ refl)) c.edges-edges.ensures.few) c.map.ensures.closure (omega arith) (λ x r q k. search rules)
+    fits_from_length _ _ most_corners (2 ^ 64) (at_most_from_yields_List (YieldsList-at c.map.ensures.source (YieldsList-from_first (λ x. x) edges_left _ refl)) (search rules)) c.map.ensures.closure (omega arith) (λ x r q k. search rules)
 
 pub returns : goal.returns
 returns g c =
@@ -17,4 +17,4 @@ returns g c =
     let a = c.args.arith.now in
     let one = c.args.one.now in
     let two = c.args.two.now in
-    sum_by_from_yields_List (crossed m a one two) (edges one) c.map.result c.sum.result c.sum.ensures.ran (YieldsList-from_map _ (crossed m a one two) (YieldsList-at c.map.ensures.source (YieldsList-from_first (λ x. x) edges_left (edges one) c.edges-edges.ensures.value)) c.map.ensures.closure (λ x r q k. search rules)) ∙ sym (by_edge m a one two)
+    sum_by_from_yields_List (crossed m a one two) (edges one) c.map.result c.sum.result c.sum.ensures.ran (YieldsList-from_map _ (crossed m a one two) (YieldsList-at c.map.ensures.source (YieldsList-from_first (λ x. x) edges_left (edges one) (search rules))) c.map.ensures.closure (λ x r q k. search rules)) ∙ sym (by_edge m a one two)

@@ -56,7 +56,7 @@ fn answer_of<K: Written>(
         (Call::Side, [a, b], [c]) => Answer::Side(arith.side(corner(a)?, corner(b)?, corner(c)?)),
         (Call::Inside, [p], ring) => {
             let p = corner(p)?;
-            // A longer ring is refused, and takes no places.
+            // No more places than an outline holds: a longer ring is refused.
             let mut places = vec![in heap; p; ring.len().min(MOST_CORNERS)]?;
             let ring = check::<K>(ring, &mut places.as_mut_slice())?;
             Answer::Inside(point_in_poly2d(arith, p, &ring))
